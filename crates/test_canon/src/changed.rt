@@ -9,8 +9,11 @@ use std::str;
 
 /// Returns whether the canonical text of a text is the text itself.
 fn is_canonical(alloc: Global, bytes: &[u8]) -> bool {
-    match str::from_utf8(bytes) {
-        Ok(text) => matches!(canonical(alloc, text), Ok(again) if again.as_str() == text),
+    let Ok(text) = str::from_utf8(bytes) else {
+        return false;
+    };
+    match canonical(alloc, text) {
+        Ok(again) => again.as_str() == text,
         Err(_) => false,
     }
 }

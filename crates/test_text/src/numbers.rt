@@ -1,6 +1,6 @@
 //! Numbers that are kept as text, and messages of errors.
 
-use crate::wrong::{Wrong, expect};
+use crate::wrong::{Wrong, expect, expect_ok};
 use miniserde_model::error::{Error, Result};
 use miniserde_text::json::number::NumberText;
 use std::alloc::Global;
@@ -46,17 +46,17 @@ fn a_number_text_is_a_number_that_is_no_integer_in_range(
     Ok(())
 }
 
+/// Returns whether an error is displayed as a message.
+fn has_message(alloc: Global, error: Error, message: &str) -> Result<bool> {
+    Ok(error.to_string(alloc)?.as_str() == message)
+}
+
 #[test]
 fn errors_have_messages(rt: HostRuntime) -> std::result::Result<(), Wrong> {
-    for (error, message) in [
-        (Error::Invalid, "miniserde error"),
-        (Error::Memory, "out of memory"),
-    ] {
-        let shown = error.to_string(rt.alloc());
-        expect(
-            matches!(shown, Ok(shown) if shown.as_str() == message),
-            message,
-        )?;
-    }
-    Ok(())
+    let alloc = rt.alloc();
+    expect_ok(
+        has_message(alloc, Error::Invalid, "miniserde error"),
+        "Invalid",
+    )?;
+    expect_ok(has_message(alloc, Error::Memory, "out of memory"), "Memory")
 }
