@@ -5,53 +5,75 @@
 mod answer;
 mod notation;
 mod row;
-mod tally;
 
 use answer::Answer;
-use row::Row;
+use notation::Spelled;
+use row::{Row, Verdict};
 use std::process::ExitCode;
 use std::{fs, io};
-use tally::{Outcome, Tally};
 
 /// The table, in the folder that the program is run in.
 const TABLE: &str = "table.txt";
 
-/// Runs one row, and prints it where the answer is other than it says, or where it is no row.
-fn outcome(rt: &(impl Print + AllocGlobal), number: usize, line: &str) -> io::Result<Outcome> {
-    let Some(row) = Row::parse(rt.alloc(), line)? else {
-        println!(rt; "line {number}: no row of a table")?;
-        return Ok(Outcome::Other);
-    };
-    let answer = Answer::of(rt.alloc(), row.text.as_slice());
-    if !answer.agrees_with(&row.verdict) {
-        println!(rt;
-            "line {number}, {}: expected {}, came {answer}",
-            row.rule, row.verdict
-        )?;
-        return Ok(Outcome::Other);
-    }
-    Ok(Outcome::of(&row.verdict))
+/// How many rows have each outcome.
+#[derive(Clone, Copy, Default)]
+struct Tally {
+    /// Accepted, as the table says.
+    accepted: u64,
+    /// Refused, as the table says.
+    refused: u64,
+    /// Other than the table says, or no row of a table.
+    other: u64,
 }
 
-/// Runs each row of the table, and counts what became of them.
-fn run(rt: &(impl Print + AllocGlobal), table: &str) -> io::Result<Tally> {
-    let mut tally = Tally::default();
-    let mut number = 0usize;
-    for line in table.lines() {
-        number = number.saturating_add(1);
-        if !row::is_comment(line) {
-            tally.count(outcome(rt, number, line)?);
+impl Tally {
+    /// Runs one row and counts it, and prints it where the answer is other than it says, or where it is no row.
+    fn count(
+        &mut self,
+        rt: &(impl Print + AllocGlobal),
+        number: u64,
+        line: &str,
+    ) -> io::Result<()> {
+        let Some(row) = Row::parse(rt.alloc(), line)? else {
+            self.other = self.other.saturating_add(1);
+            return println!(rt; "line {number}: no row of a table");
+        };
+        let answer = Answer::of(rt.alloc(), row.text.as_slice());
+        if !answer.agrees_with(&row.verdict) {
+            self.other = self.other.saturating_add(1);
+            let written = Spelled(answer.written.as_slice());
+            return println!(rt;
+                "line {number}, {}: came status {}, line \"{}\", text {written}",
+                row.rule, answer.status, answer.line
+            );
         }
+        let counter = match row.verdict {
+            Verdict::Accepted(_) => &mut self.accepted,
+            Verdict::Refused => &mut self.refused,
+        };
+        *counter = counter.saturating_add(1);
+        Ok(())
     }
-    Ok(tally)
 }
 
 /// Prints the differences and then the counts; the status is 1 where there was a difference.
 fn main(rt: HostRuntime) -> io::Result<ExitCode> {
     let table = fs::read_to_string(&rt, TABLE)?;
-    let tally = run(&rt, table.as_str())?;
-    println!(rt; "{tally}")?;
-    Ok(if tally.is_clean() {
+    let mut tally = Tally::default();
+    let mut number = 0u64;
+    for line in table.as_str().lines() {
+        number = number.saturating_add(1);
+        if !line.is_empty() && !line.starts_with('#') {
+            tally.count(&rt, number, line)?;
+        }
+    }
+    let Tally {
+        accepted,
+        refused,
+        other,
+    } = tally;
+    println!(rt; "accepted: {accepted}, refused: {refused}, other than the table says: {other}")?;
+    Ok(if other == 0 {
         ExitCode::SUCCESS
     } else {
         ExitCode::FAILURE

@@ -1,8 +1,7 @@
 //! The rows of the table: a rule, a verdict and a text, and for an accepted text its canonical text.
 
-use crate::notation::{Spelled, decoded};
+use crate::notation::decoded;
 use std::alloc::{AllocError, Global};
-use std::fmt;
 
 /// What the table says of a text.
 #[derive(Drop)]
@@ -24,73 +23,32 @@ pub struct Row<'a> {
     pub verdict: Verdict,
 }
 
-/// Whether a line of the table is empty or a comment.
-pub fn is_comment(line: &str) -> bool {
-    line.is_empty() || line.starts_with('#')
-}
-
-/// Whether a field can be a rule's name, which begins with the number of a section.
-fn is_rule(field: &str) -> bool {
-    field.starts_with(|c: char| c.is_ascii_digit())
-}
-
 impl<'a> Row<'a> {
-    /// The row that a line spells, if it spells one.
+    /// The row that a line spells, if it spells one. A rule's name begins with the number of a section.
     pub fn parse(alloc: Global, line: &'a str) -> Result<Option<Row<'a>>, AllocError> {
-        let Some((rule, rest)) = line.split_once('\t') else {
+        let mut fields = line.split('\t');
+        let (Some(rule), Some(verdict), Some(text)) = (fields.next(), fields.next(), fields.next())
+        else {
             return Ok(None);
         };
-        let Some((verdict, fields)) = rest.split_once('\t') else {
+        let Some(text) = decoded(alloc, text)? else {
             return Ok(None);
         };
-        if !is_rule(rule) {
+        let verdict = match (verdict, fields.next()) {
+            ("accept", Some(canonical)) => match decoded(alloc, canonical)? {
+                Some(canonical) => Verdict::Accepted(canonical),
+                None => return Ok(None),
+            },
+            ("refuse", None) => Verdict::Refused,
+            _ => return Ok(None),
+        };
+        if fields.next().is_some() || !rule.starts_with(|c: char| c.is_ascii_digit()) {
             return Ok(None);
         }
-        match verdict {
-            "accept" => accepted(alloc, rule, fields),
-            "refuse" => refused(alloc, rule, fields),
-            _ => Ok(None),
-        }
-    }
-}
-
-/// A row of an accepted text, from the fields of the text and of its canonical text.
-fn accepted<'a>(alloc: Global, rule: &'a str, fields: &str) -> Result<Option<Row<'a>>, AllocError> {
-    let Some((text, canonical)) = fields.split_once('\t') else {
-        return Ok(None);
-    };
-    let Some(text) = decoded(alloc, text)? else {
-        return Ok(None);
-    };
-    let Some(canonical) = decoded(alloc, canonical)? else {
-        return Ok(None);
-    };
-    let verdict = Verdict::Accepted(canonical);
-    Ok(Some(Row {
-        rule,
-        text,
-        verdict,
-    }))
-}
-
-/// A row of a refused text, from the field of the text.
-fn refused<'a>(alloc: Global, rule: &'a str, field: &str) -> Result<Option<Row<'a>>, AllocError> {
-    let Some(text) = decoded(alloc, field)? else {
-        return Ok(None);
-    };
-    let verdict = Verdict::Refused;
-    Ok(Some(Row {
-        rule,
-        text,
-        verdict,
-    }))
-}
-
-impl fmt::Display for Verdict {
-    fn fmt<W: fmt::Write>(&self, f: &mut fmt::Formatter<W>) -> fmt::Result {
-        match self {
-            Verdict::Accepted(canonical) => write!(f, "accept {}", Spelled(canonical.as_slice())),
-            Verdict::Refused => write!(f, "refuse"),
-        }
+        Ok(Some(Row {
+            rule,
+            text,
+            verdict,
+        }))
     }
 }

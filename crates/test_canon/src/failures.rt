@@ -1,36 +1,15 @@
 //! A reader that fails, a writer that fails or takes nothing, and what went out.
 
-use crate::devices::{make_narrow, make_slow};
-use miniserde::canon::{Fault, run};
+use crate::devices::{Failing, SOUND, make_device};
+use crate::wrong::{Wrong, expect};
+use miniserde_program::canon::{Fault, run};
 use std::alloc::Global;
-use std::io::ErrorKind;
-use test_tables::{Wrong, expect};
 
 /// A document of 51 bytes.
-const DOCUMENT: &[u8; 51] = b"{\"b\": -0, \"a\": [1.50, 18446744073709551616, 1e400]}";
+pub const DOCUMENT: &[u8; 51] = b"{\"b\": -0, \"a\": [1.50, 18446744073709551616, 1e400]}";
 
 /// Its canonical text, of 45.
 const CANONICAL: &[u8; 45] = b"{\"a\":[1.50,18446744073709551616,1e400],\"b\":0}";
-
-/// How the devices fail: at which call of the reader and of the writer, none by 0, whether the writer takes nothing
-/// there instead, and whether its flush fails.
-#[derive(Clone, Copy)]
-struct Failing {
-    read: u64,
-    write: u64,
-    idle: bool,
-    flush: bool,
-}
-
-/// Returns devices that never fail.
-fn sound() -> Failing {
-    Failing {
-        read: 0,
-        write: 0,
-        idle: false,
-        flush: false,
-    }
-}
 
 /// Returns whether a run over slow devices that fail so gives this answer, and has written this.
 fn is_answered(
@@ -40,110 +19,73 @@ fn is_answered(
     answer: Result<(), Fault>,
     written: &[u8],
 ) -> bool {
-    let mut r = make_slow(input, failing.read, ErrorKind::Interrupted);
-    let mut w = make_narrow(alloc, failing.write, failing.idle, failing.flush);
+    let mut r = make_device(alloc, input, failing);
+    let mut w = make_device(alloc, b"", failing);
     run(alloc, &mut r, &mut w) == answer && w.into_inner().got.as_slice() == written
 }
 
 #[test]
 fn a_read_that_fails_writes_nothing(rt: HostRuntime) -> Result<(), Wrong> {
+    let alloc = rt.alloc();
     // A call for each byte, and one that finds the end.
     for read in 1..53u64 {
-        let failing = Failing { read, ..sound() };
+        let failing = Failing { read, ..SOUND };
         let refused = Err(Fault::Read);
-        expect(
-            is_answered(rt.alloc(), DOCUMENT, failing, refused, b""),
-            "a read that fails",
-        )?;
+        let is_right = is_answered(alloc, DOCUMENT, failing, refused, b"");
+        expect(is_right, "a read that fails")?;
     }
-    let failing = Failing {
-        read: 53,
-        ..sound()
-    };
-    expect(
-        is_answered(rt.alloc(), DOCUMENT, failing, Ok(()), CANONICAL),
-        "a read after the end",
-    )
+    let after = Failing { read: 53, ..SOUND };
+    let is_right = is_answered(alloc, DOCUMENT, after, Ok(()), CANONICAL);
+    expect(is_right, "a read after the end")?;
+    // The third call comes behind what is no text's front.
+    for (read, fault) in [(3, Fault::Read), (4, Fault::Read), (5, Fault::Invalid)] {
+        let failing = Failing { read, ..SOUND };
+        let is_right = is_answered(alloc, b"[}]", failing, Err(fault), b"");
+        expect(is_right, "a read of a bad text")?;
+    }
+    Ok(())
 }
 
 #[test]
 fn a_write_that_fails_leaves_a_beginning(rt: HostRuntime) -> Result<(), Wrong> {
+    let alloc = rt.alloc();
     for idle in [false, true] {
         for k in 1..46usize {
             let failing = Failing {
                 write: k as u64,
                 idle,
-                ..sound()
+                ..SOUND
             };
             let beginning = &CANONICAL[..k - 1];
             let refused = Err(Fault::Write);
-            expect(
-                is_answered(rt.alloc(), DOCUMENT, failing, refused, beginning),
-                "a write that fails",
-            )?;
+            let is_right = is_answered(alloc, DOCUMENT, failing, refused, beginning);
+            expect(is_right, "a write that fails")?;
         }
     }
-    let failing = Failing {
-        write: 46,
-        ..sound()
-    };
-    expect(
-        is_answered(rt.alloc(), DOCUMENT, failing, Ok(()), CANONICAL),
-        "a write after the end",
-    )
+    let after = Failing { write: 46, ..SOUND };
+    let is_right = is_answered(alloc, DOCUMENT, after, Ok(()), CANONICAL);
+    expect(is_right, "a write after the end")
 }
 
 #[test]
 fn a_flush_that_fails_is_a_failed_write(rt: HostRuntime) -> Result<(), Wrong> {
     let failing = Failing {
         flush: true,
-        ..sound()
+        ..SOUND
     };
     let refused = Err(Fault::Write);
-    expect(
-        is_answered(rt.alloc(), DOCUMENT, failing, refused, CANONICAL),
-        "a flush that fails",
-    )
-}
-
-#[test]
-fn bytes_that_are_no_text_are_refused(rt: HostRuntime) -> Result<(), Wrong> {
-    let refused = Err(Fault::Invalid);
-    expect(
-        is_answered(rt.alloc(), b"\xff", sound(), refused, b""),
-        "no UTF-8",
-    )?;
-    expect(
-        is_answered(rt.alloc(), b"\"\xc3\"", sound(), refused, b""),
-        "no UTF-8 in a string",
-    )
+    let is_right = is_answered(rt.alloc(), DOCUMENT, failing, refused, CANONICAL);
+    expect(is_right, "a flush that fails")
 }
 
 #[test]
 fn a_reader_of_one_byte_a_call_gives_the_same(rt: HostRuntime) -> Result<(), Wrong> {
-    expect(
-        is_answered(rt.alloc(), b"[ 1 ,\t20 ]\n", sound(), Ok(()), b"[1,20]"),
-        "a slow reader",
-    )
-}
-
-#[test]
-fn a_read_that_fails_is_told_before_a_bad_text(rt: HostRuntime) -> Result<(), Wrong> {
     let alloc = rt.alloc();
-    // The third call comes behind what is no text's front.
-    let third = Failing { read: 3, ..sound() };
-    expect(
-        is_answered(alloc, b"[}]", third, Err(Fault::Read), b""),
-        "the third read",
-    )?;
-    let fourth = Failing { read: 4, ..sound() };
-    expect(
-        is_answered(alloc, b"[}]", fourth, Err(Fault::Read), b""),
-        "the fourth read",
-    )?;
-    let fifth = Failing { read: 5, ..sound() };
-    expect(
-        is_answered(alloc, b"[}]", fifth, Err(Fault::Invalid), b""),
-        "no read",
-    )
+    let is_right = is_answered(alloc, b"[ 1 ,\t20 ]\n", SOUND, Ok(()), b"[1,20]");
+    expect(is_right, "a text")?;
+    for bytes in [b"\xff".as_slice(), b"\"\xc3\""] {
+        let is_right = is_answered(alloc, bytes, SOUND, Err(Fault::Invalid), b"");
+        expect(is_right, "no UTF-8")?;
+    }
+    Ok(())
 }

@@ -11,3 +11,5 @@ mod devices;
 mod failures;
 #[cfg(test)]
 mod program;
+#[cfg(test)]
+mod wrong;

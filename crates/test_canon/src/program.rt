@@ -1,41 +1,45 @@
 //! The program over memory: what it writes, its status and its line.
 
-use miniserde::canon::{Counted, program};
-use miniserde::error::Result;
+use crate::wrong::{Wrong, expect_ok};
+use miniserde_model::error::Result;
+use miniserde_program::canon::{Counted, program};
 use std::alloc::Global;
-use test_tables::{Wrong, expect, expect_ok, text_of};
 
 /// What the program answers: its status and its line, and what it writes.
 type Answer<'a> = (u8, &'a str, &'a [u8]);
 
-/// Returns whether the program answers so to its arguments and its input.
-fn is_answered(alloc: Global, words: &[String], input: &[u8], expected: Answer<'_>) -> bool {
-    let mut r = Counted::new(input);
-    let mut w = Counted::new(Vec::new(alloc));
-    let (status, line) = program(alloc, words, &mut r, &mut w);
-    status == expected.0 && line == expected.1 && w.into_inner().as_slice() == expected.2
-}
-
 const REFUSED: Answer<'static> = (1, "canon: invalid text", b"");
 
-/// Returns the answer that a line of a table expects.
-fn expected(line: &str) -> Answer<'_> {
-    match line.split_once(" => ") {
-        Some((text, "same")) => (0, "", text.as_bytes()),
-        Some((_, output)) => (0, "", output.as_bytes()),
-        None => REFUSED,
+const USAGE: Answer<'static> = (2, "usage: canon [--unique]", b"");
+
+/// Returns whether the program answers so to its arguments and its input, which it reads unless its status is 2.
+fn is_answered(alloc: Global, said: &[&str], input: &[u8], expected: Answer<'_>) -> Result<bool> {
+    let mut words = Vec::new(alloc);
+    for word in said {
+        words.push(String::from_str(alloc, word)?)?;
     }
+    let mut r = Counted::new(input);
+    let mut w = Counted::new(Vec::new(alloc));
+    let (status, line) = program(alloc, words.as_slice(), &mut r, &mut w);
+    let written: Vec<u8> = w.into_inner();
+    let is_unread = r.into_inner() == input;
+    Ok((status, line, written.as_slice()) == expected && (status != 2 || is_unread))
 }
 
-/// Fails with the first line of a table to which the program does not answer as it says, if any.
+/// Fails with the first line of a table to which the program does not answer as it says, if any. A line is a text,
+/// ` => ` and its canonical text, or `same`, or a text that is refused.
 fn expect_program(
     alloc: Global,
-    words: &[String],
+    said: &[&str],
     table: &'static str,
 ) -> std::result::Result<(), Wrong> {
     for line in table.lines() {
-        let input = text_of(line).as_bytes();
-        expect(is_answered(alloc, words, input, expected(line)), line)?;
+        let (text, expected) = match line.split_once(" => ") {
+            Some((text, "same")) => (text, (0, "", text.as_bytes())),
+            Some((text, output)) => (text, (0, "", output.as_bytes())),
+            None => (line, REFUSED),
+        };
+        expect_ok(is_answered(alloc, said, text.as_bytes(), expected), line)?;
     }
     Ok(())
 }
@@ -61,29 +65,19 @@ const DOCUMENTS: &str = r#"[1, 2 ,18446744073709551615] => [1,2,1844674407370955
 [,1]
 [1"#;
 
-const NONE: [String; 0] = [];
-
 #[test]
 fn a_document_is_written_canonically(rt: HostRuntime) -> std::result::Result<(), Wrong> {
-    expect_program(rt.alloc(), &NONE, DOCUMENTS)
-}
-
-#[test]
-fn a_line_end_is_whitespace(rt: HostRuntime) -> std::result::Result<(), Wrong> {
     let alloc = rt.alloc();
-    expect(
-        is_answered(alloc, &NONE, b"\t[0\r\n]\n", (0, "", b"[0]")),
+    expect_program(alloc, &[], DOCUMENTS)?;
+    expect_ok(
+        is_answered(alloc, &[], b"\t[0\r\n]\n", (0, "", b"[0]")),
         "each whitespace",
     )?;
-    expect(
-        is_answered(alloc, &NONE, b"[\x0c1]", REFUSED),
-        "a form feed",
-    )?;
-    expect(is_answered(alloc, &NONE, b"\xff", REFUSED), "no UTF-8")?;
-    expect(
-        is_answered(alloc, &NONE, b"\"\xc3\"", REFUSED),
-        "no UTF-8 in a string",
-    )
+    for bytes in [b"[\x0c1]".as_slice(), b"\xff", b"\"\xc3\""] {
+        let refused = is_answered(alloc, &[], bytes, REFUSED);
+        expect_ok(refused, "a form feed, or no UTF-8")?;
+    }
+    Ok(())
 }
 
 const UNIQUE: &str = r#"{"a":-0} => {"a":0}
@@ -92,51 +86,26 @@ const UNIQUE: &str = r#"{"a":-0} => {"a":0}
 [{"a":0,"\u0061":0}]
 [1"#;
 
-/// Returns whether the program with `--unique` answers each line of its table so.
-fn is_unique_answered(alloc: Global) -> Result<bool> {
-    let words = [String::from_str(alloc, "--unique")?];
-    Ok(expect_program(alloc, &words, UNIQUE).is_ok())
-}
-
 #[test]
 fn a_repeated_name_is_refused_where_asked(rt: HostRuntime) -> std::result::Result<(), Wrong> {
-    expect_ok(is_unique_answered(rt.alloc()), "--unique")
-}
-
-/// Returns whether the program refuses these arguments, and reads and writes nothing.
-fn is_usage_told(alloc: Global, said: &[&str]) -> Result<bool> {
-    let mut words = Vec::new(alloc);
-    for word in said {
-        words.push(String::from_str(alloc, word)?)?;
-    }
-    let mut r = Counted::new(b"[1]".as_slice());
-    let mut w = Counted::new(Vec::new(alloc));
-    let (status, line) = program(alloc, words.as_slice(), &mut r, &mut w);
-    let got: Vec<u8> = w.into_inner();
-    Ok(
-        status == 2
-            && line == "usage: canon [--unique]"
-            && r.into_inner() == b"[1]".as_slice()
-            && got.is_empty(),
-    )
+    expect_program(rt.alloc(), &["--unique"], UNIQUE)
 }
 
 #[test]
 fn other_words_are_refused_before_anything_is_read(
     rt: HostRuntime,
 ) -> std::result::Result<(), Wrong> {
-    let alloc = rt.alloc();
-    expect_ok(is_usage_told(alloc, &["x"]), "another word")?;
-    expect_ok(is_usage_told(alloc, &["--unique", "x"]), "two words")?;
-    expect_ok(
-        is_usage_told(alloc, &["--unique", "--unique"]),
-        "the word twice",
-    )?;
-    expect_ok(
-        is_usage_told(alloc, &["--uniqu"]),
-        "a beginning of the word",
-    )?;
-    expect_ok(is_usage_told(alloc, &[""]), "an empty word")
+    for said in [
+        ["x"].as_slice(),
+        &["--unique", "x"],
+        &["--unique", "--unique"],
+        &["--uniqu"],
+        &[""],
+    ] {
+        let refused = is_answered(rt.alloc(), said, b"[1]", USAGE);
+        expect_ok(refused, "other words")?;
+    }
+    Ok(())
 }
 
 /// Returns whether a document of more than a million bytes is written canonically.
@@ -150,7 +119,7 @@ fn is_large_document_written(alloc: Global) -> Result<bool> {
     input.push_str("]")?;
     output.push_str("]")?;
     let expected = (0, "", output.as_bytes());
-    Ok(input.len() > 1_000_000 && is_answered(alloc, &NONE, input.as_bytes(), expected))
+    Ok(input.len() > 1_000_000 && is_answered(alloc, &[], input.as_bytes(), expected)?)
 }
 
 #[test]

@@ -51,9 +51,9 @@ mod tests {
                 ),
             ),
             (
-                "{\"id\":1,\"state\":\"sent\",\"tasks\":[\"Closed\",{\"Weighed\":9},{\"Labelled\":{\"large\":true,\"text\":\"a\"}}],\"extra\":1}",
+                "{\"id\":1,\"state\":\"sent\",\"tasks\":[\"Closed\",{\"Weighed\":9},{\"Labelled\":\"a\"},{\"Sealed\":true}],\"extra\":1}",
                 Some(
-                    "{\"id\":1,\"state\":\"sent\",\"weights\":[],\"tasks\":[\"Closed\",{\"Weighed\":9},{\"Labelled\":{\"text\":\"a\",\"large\":true}}],\"extra\":1}",
+                    "{\"id\":1,\"state\":\"sent\",\"weights\":[],\"tasks\":[\"Closed\",{\"Weighed\":9},{\"Labelled\":\"a\"},{\"Sealed\":true}],\"extra\":1}",
                 ),
             ),
             (

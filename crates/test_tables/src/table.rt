@@ -81,12 +81,6 @@ pub fn expect_read_itself<T: Lossless>(
     Ok(())
 }
 
-/// Returns whether a text is invalid for a type.
-fn is_invalid<T: FromJson>(alloc: Global, text: &str) -> bool {
-    let value: Result<T> = from_str(alloc, text);
-    matches!(value, Err(Error::Invalid))
-}
-
 /// Fails with the first proper prefix of a text that is not invalid for a type, if any.
 pub fn expect_prefixes_invalid<T: FromJson>(
     alloc: Global,
@@ -94,15 +88,12 @@ pub fn expect_prefixes_invalid<T: FromJson>(
 ) -> std::result::Result<(), Wrong> {
     for end in 0..text.len() {
         match text.get(..end) {
-            Some(prefix) => expect(is_invalid::<T>(alloc, prefix), prefix)?,
+            Some(prefix) => {
+                let value: Result<T> = from_str(alloc, prefix);
+                expect(matches!(value, Err(Error::Invalid)), prefix)?;
+            }
             None => {}
         }
     }
     Ok(())
 }
-
-/// Compiles for a type whose values are read again after they are written.
-pub fn is_round_trip<T: RoundTrip>() {}
-
-/// Compiles for a type whose values are read again as themselves.
-pub fn is_lossless<T: Lossless>() {}

@@ -1,4 +1,5 @@
-//! Tests of the lexer, of numbers that are kept as text, of errors and of keys of maps.
+//! Tests of what reads and writes without a type of one's own: the lexer, numbers that are kept as text, errors, keys of
+//! maps, values that are skipped, and the writer.
 #![tactic(auto)]
 
 #[cfg(test)]
@@ -8,8 +9,14 @@ mod lexer;
 #[cfg(test)]
 mod numbers;
 #[cfg(test)]
+mod skipped;
+#[cfg(test)]
 mod space;
 #[cfg(test)]
 mod special;
+#[cfg(test)]
+mod writer;
+#[cfg(test)]
+mod written;
 #[cfg(test)]
 mod wrong;

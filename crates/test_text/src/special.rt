@@ -1,11 +1,11 @@
 //! The search for special bytes.
-ghost use Rattle.std.specs.Prelude.{◌<◌, ◌≤◌, length};
+ghost use Rattle.std.specs.Prelude.{◌<◌, length};
 
 use crate::wrong::{Wrong, expect};
 use miniserde_text::scan::special;
 
 #[test]
-fn special_finds_quotes_backslashes_and_control_bytes() -> std::result::Result<(), Wrong> {
+fn special_finds_quotes_backslashes_and_control_bytes() -> Result<(), Wrong> {
     let mut bytes = [b'a'; 64];
     bytes[31] = b'"';
     bytes[63] = b'\\';
@@ -30,50 +30,34 @@ fn first_special(bytes: &[u8], from: usize) -> usize {
     bytes.len()
 }
 
-/// Returns whether `special` stops where it is to.
-fn stops_right(bytes: &[u8], from: usize) -> bool
-    requires { from ≤ length bytes.now }
-{
-    special(bytes, from) == first_special(bytes, from)
-}
-
-/// Returns the first byte at `place` that `special` takes wrongly, if any.
-fn wrong_byte(bytes: &mut [u8], place: usize) -> Option<u8>
+/// Returns whether `special` stops where it is to, with each byte at `place`.
+fn is_right_at(bytes: &mut [u8], place: usize) -> bool
     requires { place < length bytes.now }
 {
     let plain = bytes[place];
     for byte in 0..=u8::MAX {
         bytes[place] = byte;
-        if !stops_right(bytes, 0) || !stops_right(bytes, place) {
-            return Some(byte);
+        if special(bytes, 0) != first_special(bytes, 0)
+            || special(bytes, place) != first_special(bytes, place)
+        {
+            return false;
         }
     }
     bytes[place] = plain;
-    None
-}
-
-/// Returns the first place and the byte there that `special` takes wrongly, if any.
-fn wrong_place(bytes: &mut [u8]) -> Option<(usize, u8)> {
-    for place in 0..bytes.len() {
-        if let Some(byte) = wrong_byte(bytes, place) {
-            return Some((place, byte));
-        }
-    }
-    None
+    true
 }
 
 #[test]
-fn special_is_right_for_each_byte_at_each_place() -> std::result::Result<(), Wrong> {
+fn special_is_right_for_each_byte_at_each_place() -> Result<(), Wrong> {
     let plain = [0x20, 0x21, 0x23, 0x5b, 0x5d, 0x7f, 0x80, 0xff, b'a'];
     let mut bytes = [0u8; 70];
     for i in 0..70 {
         bytes[i] = plain[i % 9];
     }
     for len in 0..=70 {
-        expect(
-            wrong_place(&mut bytes[..len]).is_none(),
-            "a length up to 70",
-        )?;
+        for place in 0..len {
+            expect(is_right_at(&mut bytes[..len], place), "a length up to 70")?;
+        }
     }
     Ok(())
 }

@@ -1,7 +1,6 @@
 //! What the tests share: the error that ends a test, and what fails with it.
 
-use std::alloc::Global;
-use std::fmt::Display;
+use miniserde_model::error;
 
 /// The case that is wrong: a line of a table, or what a single case says.
 #[derive(Debug, Drop)]
@@ -14,19 +13,7 @@ pub fn expect(holds: bool, case: &'static str) -> Result<(), Wrong> {
     if holds { Ok(()) } else { Err(Wrong { case }) }
 }
 
-/// Fails with a case unless it holds, also where it fails to allocate.
-pub fn expect_ok(
-    holds: miniserde_model::error::Result<bool>,
-    case: &'static str,
-) -> Result<(), Wrong> {
+/// Fails with a case unless it holds, also if it fails to allocate.
+pub fn expect_ok(holds: error::Result<bool>, case: &'static str) -> Result<(), Wrong> {
     expect(matches!(holds, Ok(true)), case)
-}
-
-/// Returns whether `Display` prints a value as a text.
-pub fn is_displayed<T: Display>(
-    alloc: Global,
-    value: &T,
-    text: &str,
-) -> miniserde_model::error::Result<bool> {
-    Ok(value.to_string(alloc)?.as_str() == text)
 }

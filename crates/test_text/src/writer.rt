@@ -1,6 +1,6 @@
 //! The calls of the writer.
 
-use crate::wrong::{Wrong, expect};
+use crate::wrong::{Wrong, expect, expect_ok};
 use miniserde_model::error::{Error, Result};
 use miniserde_ser::ser::{Fragment, Serialize, Writer};
 use miniserde_text::json::number::NumberText;
@@ -19,18 +19,6 @@ fn fragment<'a>(word: &str, argument: &'a str) -> Option<Fragment<'a>> {
     }
 }
 
-/// Writes a number as its text.
-fn write_number(w: &mut Writer, text: &str) -> Result<()> {
-    let number = NumberText::new(w.alloc(), text)?;
-    w.fragment(Fragment::Text(&number))
-}
-
-/// Writes a `String`.
-fn write_string(w: &mut Writer, text: &str) -> Result<()> {
-    let own = String::from_str(w.alloc(), text)?;
-    own.begin(w)
-}
-
 /// Makes the call of a writer that a word names, with the argument that stands behind `=`.
 fn call(w: &mut Writer, call: &str) -> Result<()> {
     let (word, argument) = call.split_once('=').unwrap_or((call, ""));
@@ -38,8 +26,14 @@ fn call(w: &mut Writer, call: &str) -> Result<()> {
         return w.fragment(fragment);
     }
     match word {
-        "number" => write_number(w, argument),
-        "string" => write_string(w, argument),
+        "number" => {
+            let number = NumberText::new(w.alloc(), argument)?;
+            w.fragment(Fragment::Text(&number))
+        }
+        "string" => {
+            let own = String::from_str(w.alloc(), argument)?;
+            own.begin(w)
+        }
         "one" => 1u64.begin(w),
         "seq" => w.seq(),
         "element" => w.element(),
@@ -59,18 +53,6 @@ fn is_written_by(alloc: Global, calls: &str, expected: &str) -> Result<bool> {
         call(&mut w, word)?;
     }
     Ok(w.into_string()?.as_str() == expected)
-}
-
-/// Fails with the first wrong line of a table, if any: calls, ` => `, and what they write.
-fn expect_calls(alloc: Global, table: &'static str) -> std::result::Result<(), Wrong> {
-    for line in table.lines() {
-        let is_right = match line.split_once(" => ") {
-            Some((calls, expected)) => matches!(is_written_by(alloc, calls, expected), Ok(true)),
-            None => false,
-        };
-        expect(is_right, line)?;
-    }
-    Ok(())
 }
 
 // An element behind each call shows its flag: no comma stands before a first one.
@@ -108,59 +90,56 @@ seq element seq seq_finish element seq element u64=1 seq_finish element => [[],[
 seq element seq seq_finish element seq element u64=1 seq_finish seq_finish => [[],[1]]
 seq element seq seq_finish element seq element u64=1 seq_finish seq_finish element => [[],[1]],";
 
+const FRAGMENTS: &str = "null => null
+true => true
+false => false
+str=a\"b => \"a\\\"b\"
+str= => \"\"
+u64=0 => 0
+u64=18446744073709551615 => 18446744073709551615
+i64=0 => 0
+i64=-1 => -1
+i64=-9223372036854775808 => -9223372036854775808
+i64=9223372036854775807 => 9223372036854775807
+number=1.50 => 1.50
+number=18446744073709551616 => 18446744073709551616
+number=-9223372036854775809 => -9223372036854775809";
+
+const COMMAS: &str =
+    r#"map key=code u64=200 key=message str=x map_finish => {"code":200,"message":"x"}
+seq element null element seq seq_finish element string=a seq_finish => [null,[],"a"]
+map map_finish => {}
+seq element map key=" null map_finish element one seq_finish => [{"\"":null},1]"#;
+
 #[test]
 fn each_call_appends_its_text(rt: HostRuntime) -> std::result::Result<(), Wrong> {
-    expect_calls(rt.alloc(), STRUCT)?;
-    expect_calls(rt.alloc(), LISTS)
-}
-
-#[test]
-fn a_fragment_is_written_as_its_text(rt: HostRuntime) -> std::result::Result<(), Wrong> {
-    expect_calls(
-        rt.alloc(),
-        "null => null\n\
-        true => true\n\
-        false => false\n\
-        str=a\"b => \"a\\\"b\"\n\
-        str= => \"\"\n\
-        u64=0 => 0\n\
-        u64=18446744073709551615 => 18446744073709551615\n\
-        i64=0 => 0\n\
-        i64=-1 => -1\n\
-        i64=-9223372036854775808 => -9223372036854775808\n\
-        i64=9223372036854775807 => 9223372036854775807\n\
-        number=1.50 => 1.50\n\
-        number=18446744073709551616 => 18446744073709551616\n\
-        number=-9223372036854775809 => -9223372036854775809",
-    )
-}
-
-#[test]
-fn commas_stand_between_members_and_elements(rt: HostRuntime) -> std::result::Result<(), Wrong> {
-    expect_calls(
-        rt.alloc(),
-        "map key=code u64=200 key=message str=x map_finish => {\"code\":200,\"message\":\"x\"}\n\
-        seq element null element seq seq_finish element string=a seq_finish => [null,[],\"a\"]\n\
-        map map_finish => {}\n\
-        seq element map key=\" null map_finish element one seq_finish => [{\"\\\"\":null},1]",
-    )
-}
-
-/// Fails with the first call of a table, if any, that does not fail with `Memory`.
-fn expect_refusals(w: &mut Writer, table: &'static str) -> std::result::Result<(), Wrong> {
-    for line in table.lines() {
-        expect(matches!(call(w, line), Err(Error::Memory)), line)?;
+    for table in [STRUCT, LISTS, FRAGMENTS, COMMAS] {
+        for line in table.lines() {
+            let (calls, expected) = line.split_once(" => ").unwrap_or((line, ""));
+            expect_ok(is_written_by(rt.alloc(), calls, expected), line)?;
+        }
     }
     Ok(())
 }
+
+const REFUSED: &str = "refuse
+null
+str=a
+seq
+element
+seq_finish
+one
+refuse
+map
+key=a
+map_finish";
 
 #[test]
 fn a_refused_writer_fails_each_later_call(rt: HostRuntime) -> std::result::Result<(), Wrong> {
     let mut w = Writer::new(rt.alloc());
     expect(w.seq().is_ok(), "seq")?;
-    expect_refusals(
-        &mut w,
-        "refuse\nnull\nstr=a\nseq\nelement\nseq_finish\none\nrefuse\nmap\nkey=a\nmap_finish",
-    )?;
+    for line in REFUSED.lines() {
+        expect(matches!(call(&mut w, line), Err(Error::Memory)), line)?;
+    }
     expect(matches!(w.into_string(), Err(Error::Memory)), "into_string")
 }

@@ -1,5 +1,0 @@
-//! Tests of values that are skipped.
-#![tactic(auto)]
-
-#[cfg(test)]
-mod skipped;
