@@ -51,7 +51,7 @@ fn are_structs(alloc: Global) -> Result<bool> {
 }
 
 #[test]
-fn a_struct_is_read_beside_many_members(rt: HostRuntime) -> std::result::Result<(), Wrong> {
+fn large_structs_are_read(rt: HostRuntime) -> std::result::Result<(), Wrong> {
     expect_ok(are_skipped(rt.alloc()), "other names")?;
     expect_ok(are_structs(rt.alloc()), "long fields")
 }

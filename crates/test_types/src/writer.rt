@@ -49,7 +49,7 @@ fn is_appended(alloc: Global) -> Result<bool> {
 }
 
 #[test]
-fn a_large_text_is_written_call_by_call(rt: HostRuntime) -> std::result::Result<(), Wrong> {
+fn large_texts_are_written_call_by_call(rt: HostRuntime) -> std::result::Result<(), Wrong> {
     expect_ok(is_written(rt.alloc()), "the writer")?;
     expect_ok(is_appended(rt.alloc()), "behind another text")
 }

@@ -3,8 +3,8 @@
 use miniserde::error::Result;
 use miniserde::json::{canonical_of, feed, from_slice, from_str, read_canonical, to_string};
 use miniserde::{
-    Deserialize, FromJson, Lossless, NeverNull, RoundTrip, Serialize, Stable, read_back,
-    read_itself, write_and_read,
+    Deserialize, FromJson, Lossless, NeverNull, RoundTrip, Serialize, Stable, means_itself,
+    read_back, read_itself, write_and_read,
 };
 use std::alloc::Global;
 
@@ -40,6 +40,7 @@ pub fn is_round_trip<T: RoundTrip>(alloc: Global, text: &str) -> Result<bool> {
 /// Returns whether a value that was written is read again as itself, and `read_back` reads it from its text.
 pub fn is_lossless<T: Lossless + NeverNull>(alloc: Global, text: &str) -> Result<bool> {
     let value: T = from_str(alloc, text)?;
+    means_itself(&value);
     let itself = read_itself(alloc, &value)?;
     let back: Option<T> = read_back(alloc, text)?;
     Ok(is_written(alloc, &itself, text)? && is_written(alloc, &back, text)?)

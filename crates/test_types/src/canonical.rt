@@ -77,7 +77,7 @@ fn are_texts(alloc: Global) -> Result<bool> {
 }
 
 #[test]
-fn a_large_text_is_canonical(rt: HostRuntime) -> std::result::Result<(), Wrong> {
+fn large_texts_are_canonical(rt: HostRuntime) -> std::result::Result<(), Wrong> {
     let alloc = rt.alloc();
     expect_ok(are_items(alloc), "items")?;
     expect_ok(are_members(alloc), "members")?;

@@ -78,7 +78,7 @@ fn is_among_spaces(alloc: Global) -> Result<bool> {
 }
 
 #[test]
-fn a_large_value_is_read_and_written(rt: HostRuntime) -> std::result::Result<(), Wrong> {
+fn large_values_are_read_and_written(rt: HostRuntime) -> std::result::Result<(), Wrong> {
     let alloc = rt.alloc();
     expect_ok(are_lists(alloc), "lists")?;
     expect_ok(are_maps(alloc), "maps")?;

@@ -6,7 +6,7 @@ use Rattle.std.specs.Char.{is_ascii_alphabetic, to_ascii_lowercase}
 use Rattle.std.proofs.lemmas.Str.Ascii.{lowercase-lowercase}
 use Rattle.std.proofs.lemmas.List.{length-map}
 use Rattle.std.proofs.lemmas.Bool.Decides.{nat_tests}
-use Rattle.test_places.specs.Letters.{are_letters, AreLower, read_letters}
+use Rattle.test_types.specs.Letters.{are_letters, AreLower, read_letters}
 
 -- equal in lower case is equal, of letters in lower case
 pub lower-alike : (a b : List ℕ) → AreLower a → AreLower b → bytes_eq a b ≡ bytes_eq (map to_ascii_lowercase a) (map to_ascii_lowercase b)

@@ -1,7 +1,7 @@
 -- `1.5` is a number text, and is kept as it is.
 use Rattle.std.proofs.Common.{[], ◌∷◌, refl, arith, inl, inr}
 use Rattle.miniserde.specs.Number.{IsNumberText, leaf}
-use Rattle.test_places.proofs.events.hand.Goals as goal
+use Rattle.test_types.proofs.events.hand.Goals as goal
 
 one_and_a_half : IsNumberText (49 ∷ 46 ∷ 53 ∷ [])
 one_and_a_half = record {

@@ -1,8 +1,8 @@
 //! A key that is written in lower case, and read in either.
 ghost use Rattle.std.specs.Prelude.{◌≡◌, map, refl, string_bytes};
 ghost use Rattle.std.specs.Char.{to_ascii_lowercase};
-ghost use Rattle.test_places.specs.Letters.{are_letters, AreLower, read_letters};
-ghost use Rattle.test_places.specs.laws.Letters.{lower-alike, lower-back};
+ghost use Rattle.test_types.specs.Letters.{are_letters, AreLower, read_letters};
+ghost use Rattle.test_types.specs.laws.Letters.{lower-alike, lower-back};
 
 use miniserde::de::{MapKey, Ranged};
 use miniserde::{Error, Result};

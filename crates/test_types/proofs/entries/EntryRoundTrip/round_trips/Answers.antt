@@ -1,5 +1,5 @@
 -- The pair of the two reads again, and so does the entry.
-use Rattle.test_places.proofs.entries.EntryRoundTrip.round_trips.Goals as goal
+use Rattle.test_types.proofs.entries.EntryRoundTrip.round_trips.Goals as goal
 
 pub returns : goal.returns
 returns c = λ v r.

@@ -115,7 +115,7 @@ fn is_made(alloc: Global) -> Result<bool> {
 }
 
 #[test]
-fn a_document_is_large(rt: HostRuntime) -> std::result::Result<(), Wrong> {
+fn large_documents_are_read(rt: HostRuntime) -> std::result::Result<(), Wrong> {
     let alloc = rt.alloc();
     expect_ok(are_items(alloc), "items")?;
     expect_ok(are_members(alloc), "members")?;
