@@ -72,7 +72,9 @@ fn is_deep_member_skipped(alloc: Global, depth: u32) -> Result<bool> {
 }
 
 #[test]
-fn a_struct_of_structs_and_an_unknown_member_are_read(rt: HostRuntime) -> std::result::Result<(), Wrong> {
+fn a_struct_of_structs_and_an_unknown_member_are_read(
+    rt: HostRuntime,
+) -> std::result::Result<(), Wrong> {
     let alloc = rt.alloc();
     expect_table::<Tag>(alloc, TAGS)?;
     expect_table::<Nested>(alloc, r#"{} => {"y":null,"z":null}"#)?;

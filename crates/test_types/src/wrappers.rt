@@ -1,8 +1,8 @@
 //! Optional and boxed values, borrowed texts and references.
 
 use crate::checks::is_written;
-use miniserde::error::Result;
 use miniserde::FromJson;
+use miniserde::error::Result;
 use miniserde::json::from_str;
 use std::alloc::Global;
 use std::borrow::CowStr;

@@ -26,7 +26,7 @@ type BothFields<A, B> = OnceSlot<A, Slot<B, Closed>>;
 const BOTH_NAMES: &[&str] = &["one", "two"];
 
 impl<A: FromJson, B: FromJson> Record for Both<A, B> {
-    ghost use Rattle.test_structs.specs.declared.generic.TheConstants.{BOTH_NAMES};
+    ghost use Rattle.test_forms.specs.declared.generic.TheConstants.{BOTH_NAMES};
 
     type Values = <BothFields<A, B> as Slots>::Values;
 
@@ -157,7 +157,7 @@ type ReplyFields<T, E> = MarkedFour<
 const REPLY_NAMES: &[&str] = &["data", "error", "moreOf", "byName", "of", "note"];
 
 impl<T: FromJson, E: FromJson> Record for Reply<T, E> {
-    ghost use Rattle.test_structs.specs.declared.generic.TheConstants.{REPLY_NAMES};
+    ghost use Rattle.test_forms.specs.declared.generic.TheConstants.{REPLY_NAMES};
 
     type Values = <ReplyFields<T, E> as Slots>::Values;
 

@@ -1,4 +1,4 @@
-use crate::listeners::Listener;
+use crate::generic::Both;
 use std::collections::BTreeMap;
 
 /// Thirty settings of a server. An unknown name is invalid.
@@ -12,10 +12,10 @@ pub struct Server { // closed, lossless, stable
     pub owner: Option<u64>,
     pub aliases: Vec<String>,
     pub weights: Vec<u64>,
-    pub listener: Listener,
-    pub more_listeners: Vec<Listener>,
-    pub backup: Option<Listener>,
-    pub by_zone: BTreeMap<String, Listener>,
+    pub listener: Both<String, u16>,
+    pub more_listeners: Vec<Both<String, u16>>,
+    pub backup: Option<Both<String, u16>>,
+    pub by_zone: BTreeMap<String, Both<String, u16>>,
     pub limits: BTreeMap<String, u64>,
     pub labels: BTreeMap<String, Vec<String>>,
     pub memory: u64,

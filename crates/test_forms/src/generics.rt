@@ -43,15 +43,6 @@ const NAMES: &str = r#"{"one":["b","a"],"two":null} => same
 {"one":[1]}
 {"one":[],"two":[[1,2]]}"#;
 
-#[test]
-fn each_parameter_stands_for_its_type(rt: HostRuntime) -> Result<(), Wrong> {
-    let alloc = rt.alloc();
-    expect_read_itself::<Both<u8, Option<String>>>(alloc, PAIRS)?;
-    expect_read_itself::<Both<Option<String>, u8>>(alloc, SWAPPED)?;
-    expect_read_itself::<Both<VecDeque<u8>, Option<VecDeque<(u8, u8)>>>>(alloc, QUEUES)?;
-    expect_read_itself::<Both<VecDeque<String>, Option<VecDeque<(u8, String)>>>>(alloc, NAMES)
-}
-
 const REPLIES: &str =
     r#"{"data":7,"error":"e","moreOf":[{"one":1,"two":"b"}],"byName":{"a":[2,3]},"of":4} => same
 {"moreOf":[]} => {"data":null,"error":null,"moreOf":[],"byName":{},"of":1}
@@ -93,10 +84,15 @@ const OTHERS: &str =
 {"moreOf":[{"one":1,"two":"b"}]}"#;
 
 #[test]
-fn a_reply_has_data_or_an_error(rt: HostRuntime) -> Result<(), Wrong> {
-    expect_read_itself::<Reply<u64, String>>(rt.alloc(), REPLIES)?;
-    expect_read_itself::<Reply<u64, String>>(rt.alloc(), STYLED)?;
-    expect_read_itself::<Reply<String, u8>>(rt.alloc(), OTHERS)
+fn each_parameter_stands_for_its_type(rt: HostRuntime) -> Result<(), Wrong> {
+    let alloc = rt.alloc();
+    expect_read_itself::<Both<u8, Option<String>>>(alloc, PAIRS)?;
+    expect_read_itself::<Both<Option<String>, u8>>(alloc, SWAPPED)?;
+    expect_read_itself::<Both<VecDeque<u8>, Option<VecDeque<(u8, u8)>>>>(alloc, QUEUES)?;
+    expect_read_itself::<Both<VecDeque<String>, Option<VecDeque<(u8, String)>>>>(alloc, NAMES)?;
+    expect_read_itself::<Reply<u64, String>>(alloc, REPLIES)?;
+    expect_read_itself::<Reply<u64, String>>(alloc, STYLED)?;
+    expect_read_itself::<Reply<String, u8>>(alloc, OTHERS)
 }
 
 const CANONICAL_REPLIES: &str =

@@ -16,7 +16,7 @@ pub enum Phase {
 }
 
 impl UnitEnum for Phase {
-    ghost use Rattle.test_structs.specs.declared.phases.Phase.TheVariants.{NotBegun, InProgress, Done};
+    ghost use Rattle.test_forms.specs.declared.phases.Phase.TheVariants.{NotBegun, InProgress, Done};
 
     ghost all = { NotBegun ∷ InProgress ∷ Done ∷ [] };
 

@@ -4,7 +4,7 @@ ghost use Rattle.miniserde.specs.Structs.{names_of, record_tree};
 ghost use Rattle.miniserde.specs.Tree.{nonneg};
 ghost use Rattle.std.specs.Prelude.{refl};
 
-use crate::listeners::Listener;
+use crate::generic::Both;
 use miniserde::derived::{
     Closed, Empty, Event, FourLent, FourParts, FourSlot, FromJson, Given, Global, Lossless,
     MarkedFour, NeverNull, Once, Parts, Plain, Ranged, Record, Result, RoundTrip, Serialize, Slot,
@@ -25,10 +25,10 @@ pub struct Server {
     pub owner: Option<u64>,
     pub aliases: Vec<String>,
     pub weights: Vec<u64>,
-    pub listener: Listener,
-    pub more_listeners: Vec<Listener>,
-    pub backup: Option<Listener>,
-    pub by_zone: BTreeMap<String, Listener>,
+    pub listener: Both<String, u16>,
+    pub more_listeners: Vec<Both<String, u16>>,
+    pub backup: Option<Both<String, u16>>,
+    pub by_zone: BTreeMap<String, Both<String, u16>>,
     pub limits: BTreeMap<String, u64>,
     pub labels: BTreeMap<String, Vec<String>>,
     pub memory: u64,
@@ -77,11 +77,11 @@ type ServerFields = MarkedFour<
         Vec<String>,
         FourSlot<
             Vec<u64>,
-            Listener,
-            Vec<Listener>,
-            Option<Listener>,
+            Both<String, u16>,
+            Vec<Both<String, u16>>,
+            Option<Both<String, u16>>,
             FourSlot<
-                BTreeMap<String, Listener>,
+                BTreeMap<String, Both<String, u16>>,
                 BTreeMap<String, u64>,
                 BTreeMap<String, Vec<String>>,
                 u64,
@@ -151,7 +151,7 @@ const SERVER_NAMES: &[&str] = &[
 ];
 
 impl Record for Server {
-    ghost use Rattle.test_structs.specs.declared.server.TheConstants.{SERVER_NAMES};
+    ghost use Rattle.test_forms.specs.declared.server.TheConstants.{SERVER_NAMES};
 
     type Values = <ServerFields as Slots>::Values;
 
