@@ -46,7 +46,9 @@ const ORDERS: &str =
     r#"{"name":"n","a":true,"b":false,"c":true,"d":false,"order":{"total":1.50,"places":3,"type":"a","extra":{}},"number":-0.0} => same
 {"name":"n","a":true,"b":false,"c":true,"d":false,"number":1e2} => same
 {"name":"n","a":true,"b":false,"c":true,"d":false,"order":{"total":0,"extra":null}} => {"name":"n","a":true,"b":false,"c":true,"d":false,"order":{"total":0,"places":2,"type":"sale","extra":null}}
+{"name":"n","a":true,"b":false,"c":true,"d":false,"order":{"total":1,"places":2,"type":"a","discount":[1,2],"extra":null}} => same
 {"name":"n","a":true,"b":false,"c":true,"d":false,"order":null,"number":null} => {"name":"n","a":true,"b":false,"c":true,"d":false}
+{"name":"n","a":true,"b":false,"c":true,"d":false,"order":{"total":1,"discount":[1],"extra":null}}
 {"name":"n","a":true,"b":false,"c":true,"d":false,"order":{"places":3,"extra":null}}
 {"name":"n","a":true,"b":false,"c":true,"d":false,"number":"1"}"#;
 
