@@ -28,16 +28,18 @@ const RENAMED: &str = r#"{"name":"a","port":1,"of":"n"} => same
 {"remark":"n"}
 {"name":"a","note":"n"}
 {"name":"a","hostnames":1}
+{"name":"a","three":1}
+{"name":"a","port":1,"three":null}
 {}"#;
 
-const CHANGES: &str = r#"{"kind":"Add","name":"a","port":1} => same
-{"host":"a","kind":"Add","p":1} => {"kind":"Add","name":"a","port":1}
-{"old":[1,2,3],"new":"b","kind":"Mark"} => {"kind":"Mark","at":[1,2,3],"note":"b"}
-{"kind":"Mark","old":[1,2,3],"note":"b","at":[4,5,6],"new":"d"} => {"kind":"Mark","at":[4,5,6],"note":"d"}
+const CHANGES: &str = r#"{"type":"Add","name":"a","port":1} => same
+{"host":"a","type":"Add","p":1} => {"type":"Add","name":"a","port":1}
+{"old":[1,2,3],"new":"b","type":"Mark"} => {"type":"Mark","at":[1,2,3],"note":"b"}
+{"type":"Mark","old":[1,2,3],"note":"b","at":[4,5,6],"new":"d"} => {"type":"Mark","at":[4,5,6],"note":"d"}
 
-{"kind":"Mark","new":"a"}
-{"kind":"Mark","new":"a","host":"b"}
-{"kind":"Add","old":"a"}
+{"type":"Mark","new":"a"}
+{"type":"Mark","new":"a","host":"b"}
+{"type":"Add","old":"a"}
 {"old":[1,2,3],"new":"b"}"#;
 
 #[test]

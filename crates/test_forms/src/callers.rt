@@ -2,13 +2,12 @@
 ghost use Rattle.std.specs.Prelude.{◌≡◌, ℕ, List, Option, None, Some, IfOk, Err, option_map, string_bytes, vec_len};
 ghost use Rattle.miniserde.specs.Tree.{Tree};
 ghost use Rattle.miniserde.specs.Value.{IsJson};
-ghost use Rattle.test_forms.specs.declared.changes.Change.TheVariants.{Clear, Add, Mark};
+ghost use Rattle.test_forms.specs.declared.changes.Change.TheVariants.{Clear, Add, Mark, Deep};
 ghost use Rattle.test_forms.specs.declared.commands.Command.TheVariants.{Ping, Text, Move};
 
 use crate::changes::Change;
 use crate::commands::Command;
 use crate::hosts::Host;
-use crate::ledgers::Ledger;
 use crate::pages::Page;
 use miniserde::json::from_str;
 use miniserde::{Error, FromJson, Result, read_itself};
@@ -51,7 +50,12 @@ pub fn text_of(alloc: Global, text: &str) -> Result<Option<String>>
 pub fn note_of(alloc: Global, text: &str) -> Result<Option<String>>
     ensures ok { IfOk result (λ note. (t : Tree) × (c : Change) × IsJson text.now t
         × ⟦<Change as FromJson>⟧.means.reads t c × (option_map string_bytes note
-        ≡ elim c as (λ c. Option (List ℕ)) [ Clear ↦ None | Add x ↦ Some (string_bytes x.name) | Mark at note ↦ option_map string_bytes note ])) }
+        ≡ elim c as (λ c. Option (List ℕ)) [
+          | Clear ↦ None
+          | Add x ↦ Some (string_bytes x.name)
+          | Mark at note ↦ option_map string_bytes note
+          | Deep x ↦ None
+        ])) }
     ensures invalid { result ≡ Err Error.Invalid → (t : Tree) → IsJson text.now t
         → ⟦<Change as FromJson>⟧.means.from_tree t ≡ None }
 {
@@ -60,6 +64,7 @@ pub fn note_of(alloc: Global, text: &str) -> Result<Option<String>>
         Change::Clear => Ok(None),
         Change::Add(host) => Ok(Some(host.name)),
         Change::Mark { at: _, note } => Ok(note),
+        Change::Deep(_) => Ok(None),
     }
 }
 
@@ -69,17 +74,6 @@ pub fn change_again(alloc: Global, change: &Change) -> Result<Change>
         ≡ ⟦<Change as FromJson>⟧.means.content change.now) }
 {
     read_itself(alloc, change)
-}
-
-/// Parses a ledger, and returns how many orders it has.
-pub fn orders_of(alloc: Global, text: &str) -> Result<usize>
-    ensures ok { IfOk result (λ n. (t : Tree) × (l : Ledger) × IsJson text.now t
-        × ⟦<Ledger as FromJson>⟧.means.reads t l × (n ≡ vec_len l.orders)) }
-    ensures invalid { result ≡ Err Error.Invalid → (t : Tree) → IsJson text.now t
-        → ⟦<Ledger as FromJson>⟧.means.from_tree t ≡ None }
-{
-    let ledger: Ledger = from_str(alloc, text)?;
-    Ok(ledger.orders.len())
 }
 
 /// Parses a host, by today's names or earlier ones, and returns its port.

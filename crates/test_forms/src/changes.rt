@@ -6,6 +6,8 @@ ghost use Rattle.miniserde.specs.FieldsMeaning.{struct_meaning};
 ghost use Rattle.miniserde.specs.Structs.{names_of, record_tree};
 ghost use Rattle.std.specs.Prelude.{codes, refl};
 
+use crate::edits::Edit;
+use crate::generic::Both;
 use crate::hosts::Host;
 use miniserde::derived::{
     Aliased, BesideTag, DataCase, DataEnum, Event, FromJson, HasAliases, HasTag, Inside,
@@ -149,16 +151,20 @@ pub enum Change {
         at: (u8, u8, u8),
         note: Option<String>,
     },
+    Deep(Both<Edit, Vec<Edit>>),
 }
 
 // Its variants, and their names.
-type ChangeCases = DataCase<NoFields, DataCase<Host, DataCase<ChangeMark, NoCase>>>;
+type ChangeCases = DataCase<
+    NoFields,
+    DataCase<Host, DataCase<ChangeMark, DataCase<Both<Edit, Vec<Edit>>, NoCase>>>,
+>;
 
-const CHANGE_NAMES: &[&str] = &["Clear", "Add", "Mark"];
+const CHANGE_NAMES: &[&str] = &["Clear", "Add", "Mark", "Deep"];
 
 impl DataEnum for Change {
     ghost use Rattle.test_forms.specs.declared.changes.TheConstants.{CHANGE_NAMES};
-    ghost use Rattle.test_forms.specs.declared.changes.Change.TheVariants.{Clear, Add, Mark};
+    ghost use Rattle.test_forms.specs.declared.changes.Change.TheVariants.{Clear, Add, Mark, Deep};
 
     type Values = <ChangeCases as InsideCases>::Values;
 
@@ -168,15 +174,17 @@ impl DataEnum for Change {
       | Clear ↦ first_case (record {})
       | Add x0 ↦ later_case (first_case x0)
       | Mark x0 x1 ↦ later_case (later_case (first_case (record { at = x0; note = x1 })))
+      | Deep x0
+          ↦ later_case (later_case (later_case (first_case x0)))
     ] };
 
     ghost made = { each_case _ (λ x. Clear) (each_case _ (λ x. Add x) (each_case _ (λ x. Mark x.at
-        x.note) (any_of_never _))) };
+        x.note) (each_case _ (λ x. Deep x) (any_of_never _)))) };
 
     ghost bijective = { (
-      elim [ Clear ↦ refl | Add x0 ↦ refl | Mark x0 x1 ↦ refl ],
-      each_case _ (λ
-          x. refl) (each_case _ (λ x. refl) (each_case _ (λ x. refl) (any_of_never _))),
+      elim [ Clear ↦ refl | Add x0 ↦ refl | Mark x0 x1 ↦ refl | Deep x0 ↦ refl ],
+      each_case _ (λ x. refl) (each_case _ (λ x. refl) (each_case _ (λ x. refl) (each_case _ (λ x.
+          refl) (any_of_never _)))),
     ) };
 
     ghost distinct_names = { refl };
@@ -192,19 +200,22 @@ impl DataEnum for Change {
                 OneOf::First(a) => Change::Add(a),
                 OneOf::Later(value) => match value {
                     OneOf::First(ChangeMark { at, note }) => Change::Mark { at, note },
-                    OneOf::Later(value) => match value {},
+                    OneOf::Later(value) => match value {
+                        OneOf::First(a) => Change::Deep(a),
+                        OneOf::Later(value) => match value {},
+                    },
                 },
             },
         }
     }
 }
 
-const CHANGE_TAG: &[&str] = &["kind"];
+const CHANGE_TAG: &[&str] = &["type"];
 
 impl HasTag for Change {
     ghost use Rattle.test_forms.specs.declared.changes.TheConstants.{CHANGE_TAG};
 
-    ghost tag = { codes "kind" };
+    ghost tag = { codes "type" };
 
     fn tag() -> &'static [&'static str] {
         CHANGE_TAG
@@ -229,17 +240,18 @@ impl Serialize for Change {
 
     fn begin(&self, w: &mut Writer) -> Result<()> {
         match self {
-            Change::Clear => { write_tagged_fields(w, "kind", "Clear", &[], &()) },
-            Change::Add(a) => write_tagged(w, "kind", "Add", a),
+            Change::Clear => { write_tagged_fields(w, "type", "Clear", &[], &()) },
+            Change::Add(a) => write_tagged(w, "type", "Add", a),
             Change::Mark { at, note } => {
                 write_tagged_fields(
                     w,
-                    "kind",
+                    "type",
                     "Mark",
                     CHANGE_MARK_NAMES,
                     &Parts(at, Parts(Omitted(note), ())),
                 )
             },
+            Change::Deep(a) => write_tagged(w, "type", "Deep", a),
         }
     }
 }
@@ -255,6 +267,7 @@ impl Ranged for Change {
                 at.ranged();
                 note.ranged();
             },
+            Change::Deep(a) => a.ranged(),
         }
     }
 }

@@ -7,20 +7,21 @@ ghost use Rattle.std.specs.Prelude.{refl};
 
 use miniserde::derived::{
     Cases, DataCase, DataEnum, Event, Fragment, FromJson, Lossless, NeverNull, NoCase, NoSlot,
-    OneOf, Parts, Ranged, Record, Result, RoundTrip, Serialize, Slot, Slots, Source, UnitCase,
-    Writer, WrittenCases, WrittenFields, enum_lossless, enum_round_trips, read_enum, read_record,
-    record_lossless, record_round_trips, write_data, write_fields, write_members,
+    OmitSlot, Omitted, OneOf, Parts, Plain, Ranged, Record, Result, RoundTrip, Serialize, Slots,
+    Source, Stable, UnitCase, Writer, WrittenCases, WrittenFields, enum_lossless, enum_round_trips,
+    enum_stable, read_enum, read_record, record_lossless, record_round_trips, record_stable,
+    write_data, write_fields, write_members,
 };
 
 /// The fields of `Command::Move`.
 #[derive(Drop)]
 pub struct CommandMove {
-    pub x: i64,
-    pub y: i64,
+    pub x: Option<i64>,
+    pub y: Option<i64>,
 }
 
 // Its fields, and their names.
-type CommandMoveFields = Slot<i64, Slot<i64, NoSlot>>;
+type CommandMoveFields = OmitSlot<i64, Plain, OmitSlot<i64, Plain, NoSlot>>;
 
 const COMMAND_MOVE_NAMES: &[&str] = &["x", "y"];
 
@@ -65,7 +66,11 @@ impl Serialize for CommandMove {
     ghost tree = { record_tree ⟦<CommandMove as Record>⟧.names ⟦<CommandMoveFields as WrittenFields>⟧.trees ⟦<CommandMove as Record>⟧.values };
 
     fn begin(&self, w: &mut Writer) -> Result<()> {
-        write_members(w, COMMAND_MOVE_NAMES, &Parts(&self.x, Parts(&self.y, ())))
+        write_members(
+            w,
+            COMMAND_MOVE_NAMES,
+            &Parts(Omitted(&self.x), Parts(Omitted(&self.y), ())),
+        )
     }
 }
 
@@ -94,12 +99,18 @@ impl NeverNull for CommandMove {
     fn never_null() {}
 }
 
-/// What a machine is told.
+impl Stable for CommandMove {
+    fn stable() {
+        record_stable::<CommandMove, CommandMoveFields>()
+    }
+}
+
+/// What a machine is told. A move may leave out each of its fields.
 #[derive(Drop)]
 pub enum Command {
     Ping,
     Text(String),
-    Move { x: i64, y: i64 },
+    Move { x: Option<i64>, y: Option<i64> },
 }
 
 // Its variants, and their names.
@@ -173,7 +184,12 @@ impl Serialize for Command {
             Command::Ping => w.fragment(Fragment::Str("Ping")),
             Command::Text(a) => write_data(w, "Text", a),
             Command::Move { x, y } => {
-                write_fields(w, "Move", COMMAND_MOVE_NAMES, &Parts(x, Parts(y, ())))
+                write_fields(
+                    w,
+                    "Move",
+                    COMMAND_MOVE_NAMES,
+                    &Parts(Omitted(x), Parts(Omitted(y), ())),
+                )
             },
         }
     }
@@ -208,4 +224,10 @@ impl Lossless for Command {
 
 impl NeverNull for Command {
     fn never_null() {}
+}
+
+impl Stable for Command {
+    fn stable() {
+        enum_stable::<Command, CommandCases>()
+    }
 }

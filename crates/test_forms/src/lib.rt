@@ -1,5 +1,5 @@
-//! Types of each form that `./derive` takes, one in another, and their callers, proved without a proof file. Nothing
-//! here is for users.
+//! Types of each form that `./derive` takes, one in another, as users write them, and their callers, proved without a proof
+//! file. Nothing here is for users.
 #![tactic(auto)]
 
 #[cfg(test)]
@@ -11,9 +11,13 @@ mod changes;
 #[cfg(test)]
 mod commands;
 #[cfg(test)]
-mod hosts;
+mod edits;
 #[cfg(test)]
-mod ledgers;
+mod generic;
+#[cfg(test)]
+mod generics;
+#[cfg(test)]
+mod hosts;
 #[cfg(test)]
 mod notes;
 #[cfg(test)]
@@ -21,4 +25,18 @@ mod omitted;
 #[cfg(test)]
 mod pages;
 #[cfg(test)]
+mod phases;
+#[cfg(test)]
+mod renames;
+#[cfg(test)]
+mod server;
+#[cfg(test)]
+mod stable;
+#[cfg(test)]
+mod structs;
+#[cfg(test)]
 mod tables;
+#[cfg(test)]
+mod tags;
+#[cfg(test)]
+mod wide;

@@ -1,7 +1,6 @@
 //! Fields that are not written if they are `None`.
 
 use crate::commands::Command;
-use crate::ledgers::Bare;
 use crate::notes::Note;
 use crate::pages::{Entry, Page};
 use test_tables::{Wrong, expect_prefixes_invalid, expect_read_again, expect_read_itself};
@@ -13,6 +12,8 @@ const NOTES: &str =
 {"text":"","name":"n","a":true,"b":false,"c":true,"d":false} => same
 {"name":"n","*":0,"a":true,"b":false,"c":true,"d":false} => same
 {"name":"n","points":[0,0],"a":true,"b":false,"c":true,"d":false} => same
+{"name":"n","points":[],"a":true,"b":false,"c":true,"d":false} => same
+{"name":"n","points":[null,1],"a":true,"b":false,"c":true,"d":false} => same
 {"name":"n","a":true,"b":false,"c":true,"d":false,"host":{"name":"","port":0,"command":{"Text":""}}} => same
 {"text":null,"name":"n","*":null,"points":null,"a":true,"b":false,"c":true,"d":false,"host":null} => {"name":"n","a":true,"b":false,"c":true,"d":false}
 {"text":"t","text":null,"name":"n","a":true,"b":false,"c":true,"d":false} => {"name":"n","a":true,"b":false,"c":true,"d":false}
@@ -24,40 +25,39 @@ const NOTES: &str =
 {"name":"n","*":5,"*":5,"a":true,"b":false,"c":true,"d":false}
 {"name":"n","*":null,"*":5,"a":true,"b":false,"c":true,"d":false}
 {"name":"n","*":256,"a":true,"b":false,"c":true,"d":false}
-{"name":"n","points":[1],"a":true,"b":false,"c":true,"d":false}
+{"name":"n","points":[256],"a":true,"b":false,"c":true,"d":false}
 {"name":"n","a":true,"b":false,"c":true,"d":false,"host":{}}
 {"name":"n","a":true,"b":false,"c":true}"#;
 
-const BARE: &str = r#"{} => same
-{"one":1} => same
-{"two":[null,1]} => same
-{"one":0,"two":[]} => same
-{"two":[],"one":0} => {"one":0,"two":[]}
-{"one":null,"two":null} => {}
-{"two":null,"one":3} => {"one":3}
+const MOVES: &str = r#"{"Move":{}} => same
+{"Move":{"x":1}} => same
+{"Move":{"y":1}} => same
+{"Move":{"x":0,"y":0}} => same
+{"Move":{"y":0,"x":0}} => {"Move":{"x":0,"y":0}}
+{"Move":{"x":null,"y":null}} => {"Move":{}}
+{"Move":{"y":null,"x":3}} => {"Move":{"x":3}}
 
-{"three":1}
-{"one":1,"two":[],"three":null}
-{"two":[256]}
-[]
-null"#;
+{"Move":{"y":"1"}}
+{"Move":[]}
+{"Move":null}"#;
 
 // What is left out need not be lossless.
 const ORDERS: &str =
-    r#"{"order":{"total":1.50,"places":3,"type":"a","extra":{}},"number":-0.0} => same
-{} => same
-{"number":1e2} => same
-{"order":{"total":0,"extra":null}} => {"order":{"total":0,"places":2,"type":"sale","extra":null}}
-{"order":null,"number":null} => {}
-{"order":{"places":3,"extra":null}}
-{"number":"1"}"#;
+    r#"{"name":"n","a":true,"b":false,"c":true,"d":false,"order":{"total":1.50,"places":3,"type":"a","extra":{}},"number":-0.0} => same
+{"name":"n","a":true,"b":false,"c":true,"d":false,"number":1e2} => same
+{"name":"n","a":true,"b":false,"c":true,"d":false,"order":{"total":0,"extra":null}} => {"name":"n","a":true,"b":false,"c":true,"d":false,"order":{"total":0,"places":2,"type":"sale","extra":null}}
+{"name":"n","a":true,"b":false,"c":true,"d":false,"order":{"total":1,"places":2,"type":"a","discount":[1,2],"extra":null}} => same
+{"name":"n","a":true,"b":false,"c":true,"d":false,"order":null,"number":null} => {"name":"n","a":true,"b":false,"c":true,"d":false}
+{"name":"n","a":true,"b":false,"c":true,"d":false,"order":{"total":1,"discount":[1],"extra":null}}
+{"name":"n","a":true,"b":false,"c":true,"d":false,"order":{"places":3,"extra":null}}
+{"name":"n","a":true,"b":false,"c":true,"d":false,"number":"1"}"#;
 
 #[test]
 fn a_field_that_is_none_is_left_out(rt: HostRuntime) -> Result<(), Wrong> {
     expect_read_again::<Note>(rt.alloc(), NOTES)?;
-    expect_read_again::<Bare>(rt.alloc(), BARE)?;
-    expect_read_again::<Bare>(rt.alloc(), ORDERS)?;
-    expect_prefixes_invalid::<Bare>(rt.alloc(), r#"{"one":1,"two":[null]}"#)
+    expect_read_again::<Note>(rt.alloc(), ORDERS)?;
+    expect_read_itself::<Command>(rt.alloc(), MOVES)?;
+    expect_prefixes_invalid::<Command>(rt.alloc(), r#"{"Move":{"x":1,"y":2}}"#)
 }
 
 const OF: &str = r#"{"items":[],"of":"Ping"} => same

@@ -2,10 +2,13 @@
 
 use crate::changes::Change;
 use crate::commands::Command;
-use crate::ledgers::Ledger;
+use crate::notes::Order;
 use crate::pages::{Entry, Page};
+use miniserde::json::Number;
+use std::collections::BTreeMap;
 use test_tables::{Wrong, expect_read_again, expect_read_itself};
 
+// An enum in a struct in an enum.
 const HOSTS: &str = r#""up" => same
 {"one-host":{"name":"a","port":1,"command":"Ping"}} => same
 {"one-host":{"name":"a","port":1,"command":{"Move":{"x":-1,"y":1}}}} => same
@@ -18,7 +21,7 @@ const HOSTS: &str = r#""up" => same
 "one-host"
 {"up":null}
 {"one-host":{"name":"a","command":"ping"}}
-{"one-host":{"name":"a","command":{"Move":{"x":1}}}}
+{"one-host":{"name":"a","command":{"Move":{"x":"1"}}}}
 {"one-host":{"name":"a","note":"n"}}
 {"hosts":[{"name":"a","command":"Ping"},{"command":"Ping"}]}
 {"three":[1,2]}
@@ -26,11 +29,6 @@ const HOSTS: &str = r#""up" => same
 {"three":[256,2,3]}
 {"one-host":{"name":"a"},"three":[1,2,3]}
 {}"#;
-
-#[test]
-fn an_enum_in_a_struct_in_an_enum(rt: HostRuntime) -> Result<(), Wrong> {
-    expect_read_again::<Entry<u8>>(rt.alloc(), HOSTS)
-}
 
 const PAGES: &str = r#"{"items":[]} => same
 {"items":["Ping",{"Text":"a"}],"next":"b"} => same
@@ -43,26 +41,21 @@ const PAGES: &str = r#"{"items":[]} => same
 {"items":[],"next":1}
 {"items":[],"next":1,"next":"b"}"#;
 
-#[test]
-fn a_page_of_commands(rt: HostRuntime) -> Result<(), Wrong> {
-    expect_read_itself::<Page<Command>>(rt.alloc(), PAGES)
-}
-
-const CHANGES: &str = r#"{"kind":"Clear"} => same
-{"kind":"Add","name":"a","port":1,"command":"Ping"} => same
-{"name":"a","kind":"Add","command":{"Text":"b"}} => {"kind":"Add","name":"a","port":80,"command":{"Text":"b"}}
-{"name":"a","command":"Ping","kind":"Add"} => {"kind":"Add","name":"a","port":80,"command":"Ping"}
-{"kind":"Mark","at":[1,2,3],"note":"n"} => same
-{"kind":"Mark","at":[1,2,3]} => same
-{"note":null,"at":[1,2,3],"kind":"Mark"} => {"kind":"Mark","at":[1,2,3]}
-{"kind":"Clear","at":[1,2,3],"kind":"Mark"} => {"kind":"Mark","at":[1,2,3]}
+const CHANGES: &str = r#"{"type":"Clear"} => same
+{"type":"Add","name":"a","port":1,"command":"Ping"} => same
+{"name":"a","type":"Add","command":{"Text":"b"}} => {"type":"Add","name":"a","port":80,"command":{"Text":"b"}}
+{"name":"a","command":"Ping","type":"Add"} => {"type":"Add","name":"a","port":80,"command":"Ping"}
+{"type":"Mark","at":[1,2,3],"note":"n"} => same
+{"type":"Mark","at":[1,2,3]} => same
+{"note":null,"at":[1,2,3],"type":"Mark"} => {"type":"Mark","at":[1,2,3]}
+{"type":"Clear","at":[1,2,3],"type":"Mark"} => {"type":"Mark","at":[1,2,3]}
 
 {"name":"a","command":"Ping"}
-{"kind":"Add","kind":"Clear","kind":"add","name":"a","command":"Ping"}
-{"kind":"Mark","at":[1,2]}
-{"kind":"Mark","at":[1,2,3],"note":0}
-{"kind":1,"kind":"Clear"}
-{"kind":"Add"}
+{"type":"Add","type":"Clear","type":"add","name":"a","command":"Ping"}
+{"type":"Mark","at":[1,2]}
+{"type":"Mark","at":[1,2,3],"note":0}
+{"type":1,"type":"Clear"}
+{"type":"Add"}
 "Clear"
 {}"#;
 
@@ -116,17 +109,27 @@ const STYLED: &str = r#""signed-out" => same
 
 #[test]
 fn each_of_sixteen_variants(rt: HostRuntime) -> Result<(), Wrong> {
+    expect_read_again::<Entry<u8>>(rt.alloc(), HOSTS)?;
     expect_read_again::<Entry<u8>>(rt.alloc(), SIXTEEN)?;
     expect_read_again::<Entry<Command>>(rt.alloc(), STYLED)
 }
 
-const LEDGERS: &str = r#"{"orders":[],"next":0,"by_country":{},"rates":{}} => same
-{"rates":{"EUR":1.50},"by_country":{"CH":[1]},"next":7,"orders":[{"total":1,"places":0,"type":"a","extra":[]}]} => {"orders":[{"total":1,"places":0,"type":"a","extra":[]}],"next":7,"by_country":{"CH":[1]},"rates":{"EUR":1.50}}
-{"orders":[],"next":0,"by_country":{},"rates":{"EUR":"1"}}
-{"orders":[{}],"next":0,"by_country":{},"rates":{}}
-{"orders":[],"by_country":{},"rates":{}}"#;
+// What a shop keeps: orders, a number, what it sold by country, and rates.
+type Ledger = (
+    Vec<Order>,
+    u64,
+    BTreeMap<String, Vec<u64>>,
+    BTreeMap<String, Number>,
+);
+
+const LEDGERS: &str = r#"[[],0,{},{}] => same
+[[{"extra":[],"places":0,"type":"a","total":1}],7,{"CH":[1]},{"EUR":1.50}] => [[{"total":1,"places":0,"type":"a","extra":[]}],7,{"CH":[1]},{"EUR":1.50}]
+[[],0,{},{"EUR":"1"}]
+[[{}],0,{},{}]
+[[],{},{}]"#;
 
 #[test]
-fn a_ledger_of_orders(rt: HostRuntime) -> Result<(), Wrong> {
+fn a_page_of_commands_and_a_ledger_of_orders(rt: HostRuntime) -> Result<(), Wrong> {
+    expect_read_itself::<Page<Command>>(rt.alloc(), PAGES)?;
     expect_read_again::<Ledger>(rt.alloc(), LEDGERS)
 }

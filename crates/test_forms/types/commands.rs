@@ -1,6 +1,9 @@
-/// What a machine is told.
-pub enum Command { // lossless
+/// What a machine is told. A move may leave out each of its fields.
+pub enum Command { // lossless, stable
     Ping,
     Text(String),
-    Move { x: i64, y: i64 },
+    Move {
+        x: Option<i64>, // omit
+        y: Option<i64>, // omit
+    },
 }

@@ -4,7 +4,6 @@ ghost use Rattle.miniserde.specs.FieldsMeaning.{struct_meaning};
 ghost use Rattle.miniserde.specs.KeyLaws.{u64_key_laws, checked-back, checked-exact};
 ghost use Rattle.miniserde.specs.Meanings.{box_meaning};
 ghost use Rattle.miniserde.specs.Newtypes.{checked_meaning, same_meaning};
-ghost use Rattle.miniserde.specs.Place.{wrapper_meaning};
 ghost use Rattle.miniserde.specs.PlaceMeanings.{box_place_meaning};
 ghost use Rattle.miniserde.specs.Structs.{names_of, record_tree};
 ghost use Rattle.std.specs.Prelude.{◌≡◌, true, option_map, string_bytes, refl};
@@ -13,12 +12,12 @@ ghost use Rattle.test_newtypes.specs.Checks.{is_slug};
 use crate::checks::is_slug;
 use crate::percents::Percent;
 use miniserde::derived::{
-    Checked, CheckedLeaf, Deserialize, Error, Event, ExactKey, FourParts, FromJson, Global,
-    InjectiveKey, Leaf, LeafPlace, Lossless, MapKey, NeverNull, NoSlot, OmitSlot, Omitted, Parts,
-    Plain, Ranged, Record, Result, RoundTrip, Serialize, Slot, Slots, Source, Stable, Step,
-    Transparent, Visitor, Writer, WrittenFields, checked_from_step, checked_lossless,
-    checked_round_trips, checked_stable, read_checked, read_record, record_lossless,
-    record_round_trips, take_four, transparent_round_trips, write_members,
+    Checked, Deserialize, Error, Event, ExactKey, FourParts, FromJson, Global, InjectiveKey,
+    Lossless, MapKey, NeverNull, NoSlot, OmitSlot, Omitted, Parts, Plain, Ranged, Record, Result,
+    RoundTrip, Serialize, Slot, Slots, Source, Stable, Step, Transparent, Visitor, Writer,
+    WrittenFields, checked_lossless, checked_round_trips, checked_stable, read_checked,
+    read_record, record_lossless, record_round_trips, take_four, transparent_round_trips,
+    write_members,
 };
 use std::alloc::AllocError;
 use std::collections::BTreeMap;
@@ -297,65 +296,6 @@ impl InjectiveKey for Slug {
 
 impl ExactKey for Slug {
     ghost one_name = { checked-exact is_slug };
-}
-
-impl Leaf for Slug {
-    ghost means = { checked_meaning ⟦<String as FromJson>⟧.means is_slug (λ v. v.value) };
-
-    ghost only_leaves = { (λ ts. refl, λ ms. refl) };
-
-    ghost read_infallible = { ⟦<String as Leaf>⟧.read_infallible };
-
-    ghost lacking = { ⟦<String as Leaf>⟧.lacking };
-
-    fn from_step(alloc: Global, event: Step<'_>) -> Result<Slug> {
-        checked_from_step(alloc, event)
-    }
-}
-
-impl CheckedLeaf for Slug {
-    ghost same_leaf = { same_meaning ⟦<String as Leaf>⟧.means };
-}
-
-/// The place of a `Slug`.
-#[derive(Drop)]
-pub struct SlugPlace {
-    place: LeafPlace<Slug>,
-}
-
-impl Visitor for SlugPlace {
-    type Out = Slug;
-
-    ghost meaning = { wrapper_meaning (λ p. p.place) ⟦<LeafPlace<Slug> as Visitor>⟧.meaning };
-
-    fn begin(alloc: Global) -> Result<SlugPlace> {
-        Ok(SlugPlace {
-            place: <LeafPlace<Slug> as Visitor>::begin(alloc)?,
-        })
-    }
-
-    fn step(&mut self, event: Step<'_>) -> Result<()> {
-        self.place.step(event)
-    }
-
-    fn refuse(&mut self, error: Error) -> Error {
-        self.place.refuse(error)
-    }
-
-    fn is_complete(&self) -> bool {
-        self.place.is_complete()
-    }
-
-    fn take(self) -> Result<Slug> {
-        let SlugPlace { place } = self;
-        place.take()
-    }
-}
-
-impl Deserialize for Slug {
-    type Place = SlugPlace;
-
-    fn tied() {}
 }
 
 /// A value of a type of its own.

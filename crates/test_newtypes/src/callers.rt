@@ -7,7 +7,7 @@ ghost use Rattle.miniserde.specs.Integers.{ReadsUnsigned};
 ghost use Rattle.test_newtypes.specs.Checks.{at_most_100, is_slug};
 ghost use Rattle.test_newtypes.specs.Orders.{is_ordered};
 
-use crate::accounts::{Account, Slug, Tagged, UserId};
+use crate::accounts::{Slug, Tagged};
 use crate::percents::Percent;
 use crate::spans::Span;
 use miniserde::json::from_str;
@@ -35,36 +35,6 @@ pub fn same_slug(alloc: Global, slug: &Slug) -> Result<Slug>
     ensures memory { result ≡ Err Error.Invalid → ⊥ }
 {
     read_itself(alloc, slug)
-}
-
-/// Reads a map of slugs, each with an optional percent.
-pub fn by_slug(alloc: Global, text: &str) -> Result<BTreeMap<Slug, Option<Percent>>>
-    ensures ok { IfOk result (λ m. (t : Tree) × IsJson text.now t
-        × ⟦<BTreeMap<Slug, Option<Percent>> as FromJson>⟧.means.reads t m) }
-    ensures invalid { result ≡ Err Error.Invalid → (t : Tree) → IsJson text.now t
-        → ⟦<BTreeMap<Slug, Option<Percent>> as FromJson>⟧.means.from_tree t ≡ None }
-{
-    from_str(alloc, text)
-}
-
-/// Reads an account, and returns its owner.
-pub fn owner_of(alloc: Global, text: &str) -> Result<UserId>
-    ensures ok { IfOk result (λ owner. (t : Tree) × (a : Account) × IsJson text.now t
-        × ⟦<Account as FromJson>⟧.means.reads t a × (owner ≡ a.owner)) }
-    ensures invalid { result ≡ Err Error.Invalid → (t : Tree) → IsJson text.now t
-        → (a : Account) → ⟦<Account as FromJson>⟧.means.reads t a → ⊥ }
-{
-    let account: Account = from_str(alloc, text)?;
-    Ok(account.owner)
-}
-
-/// Writes an account and reads it again: the same content.
-pub fn same_account(alloc: Global, account: &Account) -> Result<Account>
-    ensures same { IfOk result (λ a. ⟦<Account as FromJson>⟧.means.content a
-        ≡ ⟦<Account as FromJson>⟧.means.content account.now) }
-    ensures memory { result ≡ Err Error.Invalid → ⊥ }
-{
-    read_itself(alloc, account)
 }
 
 /// Does nothing. It promises that the normal form of a tree that means percents by slugs means the same.

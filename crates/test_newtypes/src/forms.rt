@@ -1,21 +1,16 @@
 //! The types of `forms.rs`, with the impls that `./derive` writes.
-ghost use Rattle.miniserde.specs.Cases.{each_case, enum_tree, first_case, later_case, any_of_never};
-ghost use Rattle.miniserde.specs.CasesMeaning.{enum_meaning};
 ghost use Rattle.miniserde.specs.ExactKeys.{text-exact, bool-exact, char-exact};
 ghost use Rattle.miniserde.specs.KeyLaws.{i32_key_laws, bool_key_laws, char_key_laws};
 ghost use Rattle.miniserde.specs.Meanings.{box_meaning};
 ghost use Rattle.miniserde.specs.Newtypes.{checked_meaning, same_meaning};
-ghost use Rattle.miniserde.specs.Structs.{names_of};
 ghost use Rattle.std.specs.Prelude.{◌≡◌, true, option_map, refl};
 ghost use Rattle.test_newtypes.specs.Checks.{is_celsius};
 
-use crate::accounts::{Slug, UserId};
 use crate::checks::is_celsius;
 use miniserde::derived::{
-    Cases, Checked, DataCase, DataEnum, Event, ExactKey, FromJson, Global, InjectiveKey, Lossless,
-    MapKey, NoCase, OneOf, Ranged, Result, RoundTrip, Serialize, Source, Stable, Transparent,
-    Writer, WrittenCases, checked_round_trips, enum_round_trips, read_checked, read_enum,
-    transparent_round_trips, write_data,
+    Checked, Event, ExactKey, FromJson, Global, InjectiveKey, Lossless, MapKey, Ranged, Result,
+    RoundTrip, Serialize, Source, Transparent, Writer, checked_round_trips, read_checked,
+    transparent_round_trips,
 };
 
 /// A temperature.
@@ -436,99 +431,5 @@ impl RoundTrip for Maybe {
 impl Lossless for Maybe {
     fn lossless() {
         <Option<u8> as Lossless>::lossless()
-    }
-}
-
-impl Stable for Maybe {
-    fn stable() {
-        <Option<u8> as Stable>::stable()
-    }
-}
-
-/// Whose a thing is.
-#[derive(Drop)]
-pub enum Owner {
-    User(UserId),
-    Named(Slug),
-}
-
-// Its variants, and their names.
-type OwnerCases = DataCase<UserId, DataCase<Slug, NoCase>>;
-
-const OWNER_NAMES: &[&str] = &["User", "Named"];
-
-impl DataEnum for Owner {
-    ghost use Rattle.test_newtypes.specs.declared.forms.TheConstants.{OWNER_NAMES};
-    ghost use Rattle.test_newtypes.specs.declared.forms.Owner.TheVariants.{User, Named};
-
-    type Values = <OwnerCases as Cases>::Values;
-
-    ghost names = { names_of OWNER_NAMES };
-
-    ghost values = { elim [ User x0 ↦ first_case x0 | Named x0 ↦ later_case (first_case x0) ] };
-
-    ghost made = { each_case _ (λ x. User x) (each_case _ (λ x. Named x) (any_of_never _)) };
-
-    ghost bijective = { (
-      elim [ User x0 ↦ refl | Named x0 ↦ refl ],
-      each_case _ (λ x. refl)
-          (each_case _ (λ x. refl) (any_of_never _)),
-    ) };
-
-    ghost distinct_names = { refl };
-
-    fn names() -> &'static [&'static str] {
-        OWNER_NAMES
-    }
-
-    fn build(value: Self::Values) -> Owner {
-        match value {
-            OneOf::First(a) => Owner::User(a),
-            OneOf::Later(value) => match value {
-                OneOf::First(a) => Owner::Named(a),
-                OneOf::Later(value) => match value {},
-            },
-        }
-    }
-}
-
-impl FromJson for Owner {
-    ghost means = { enum_meaning ⟦<OwnerCases as Cases>⟧.meaning ⟦<Owner as DataEnum>⟧.names refl
-        ⟦<Owner as DataEnum>⟧.values };
-
-    fn missing() -> Option<Owner> {
-        None
-    }
-
-    fn read<'a>(token: Event<'a>, source: &mut Source<'a>) -> Result<Owner> {
-        read_enum::<Owner, OwnerCases>(token, source)
-    }
-}
-
-impl Serialize for Owner {
-    ghost tree = { enum_tree ⟦<Owner as DataEnum>⟧.names ⟦<OwnerCases as WrittenCases>⟧.tree ⟦<Owner as DataEnum>⟧.values };
-
-    fn begin(&self, w: &mut Writer) -> Result<()> {
-        match self {
-            Owner::User(a) => write_data(w, "User", a),
-            Owner::Named(a) => write_data(w, "Named", a),
-        }
-    }
-}
-
-impl Ranged for Owner {
-    ghost real = { λ v. ⟦<OwnerCases as WrittenCases>⟧.real (⟦<Owner as DataEnum>⟧.values v) };
-
-    fn ranged(&self) {
-        match self {
-            Owner::User(a) => a.ranged(),
-            Owner::Named(a) => a.ranged(),
-        }
-    }
-}
-
-impl RoundTrip for Owner {
-    fn round_trips() {
-        enum_round_trips::<Owner, OwnerCases>()
     }
 }

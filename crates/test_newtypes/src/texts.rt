@@ -3,7 +3,7 @@
 
 use crate::accounts::{Account, Slug, Tagged, UserId};
 use crate::ends::Ends;
-use crate::forms::{Celsius, Flag, Initial, Maybe, Name, Offset, Owner};
+use crate::forms::{Celsius, Flag, Initial, Maybe, Name, Offset};
 use crate::percents::Percent;
 use crate::spans::Span;
 use miniserde::json::Document;
@@ -101,18 +101,17 @@ const ACCOUNTS: &str = r#"{"owner":7,"slug":"a-b","shares":{"7":60,"10":40}} => 
 {"owner":7,"slug":"a","fee":7,"shares":{}} => same
 {"fee":100,"slug":"a","shares":{},"owner":7} => {"owner":7,"slug":"a","fee":100,"shares":{}}
 {"owner":7,"slug":"a","fee":101,"fee":7,"shares":{}}
-{"owner":7,"slug":"","shares":{}}"#;
+{"owner":7,"slug":"","shares":{}}
+{"owner":18446744073709551615,"slug":"9","shares":{}} => same
+{"owner":0,"slug":"a-","shares":{"0":0}} => same
+{"owner":-1,"slug":"a","shares":{}}
+{"owner":7,"slug":"A","shares":{}}
+{"owner":"7","slug":"a","shares":{}}
+"owner""#;
 
 const MAYBE_ENDS: &str = r#"{"from":1} => {"from":1,"to":null}
 {"from":1,"to":null} => same
 {"from":1,"to":2} => same"#;
-
-const OWNERS: &str = r#"{"User":7} => same
-{"Named":"a"} => same
-{"User":-1}
-{"Named":"A"}
-{"User":"7"}
-"User""#;
 
 const SPANS: &str = r#"{"from":1,"to":2} => same
 {"to":2,"from":2} => {"from":2,"to":2}
@@ -203,7 +202,6 @@ fn texts_of_newtypes(rt: HostRuntime) -> Result<(), Wrong> {
     expect_read_itself::<Tagged<Vec<Percent>>>(alloc, LISTS)?;
     expect_read_itself::<Maybe>(alloc, MAYBES)?;
     expect_read_itself::<Tagged<Document>>(alloc, RAW)?;
-    expect_read_again::<Owner>(alloc, OWNERS)?;
     // serde_json takes `-0` for a float, which is no integer there.
     expect_table::<Celsius>(alloc, "-0 => 0")
 }

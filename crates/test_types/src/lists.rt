@@ -43,12 +43,8 @@ fn a_list_has_items_between_commas(rt: HostRuntime) -> std::result::Result<(), W
     expect_table::<Vec<String>>(
         alloc,
         "[\"\", \"\\t\"] => [\"\",\"\\t\"]\n[\"a\",1]\n[\"a\" \"b\"]\n[\"a,\"b\"]",
-    )
-}
-
-#[test]
-fn a_pair_has_two_items(rt: HostRuntime) -> std::result::Result<(), Wrong> {
-    let alloc = rt.alloc();
+    )?;
+    // A pair has two items.
     expect_table::<(u8, bool)>(
         alloc,
         "[1,true] => same\n[1]\n[1,true,null]\n[1,true,]\n[true,1]\n[]\n1\n{\"a\":1,\"b\":true}",

@@ -20,21 +20,6 @@ const SIGNED: &str = r#"1 => same
 18446744073709551616
 "1""#;
 
-#[test]
-fn a_signed_integer_alone_may_have_a_minus(rt: HostRuntime) -> Result<(), Wrong> {
-    let alloc = rt.alloc();
-    expect_read_itself::<u8>(alloc, UNSIGNED)?;
-    expect_read_itself::<u16>(alloc, UNSIGNED)?;
-    expect_read_itself::<u32>(alloc, UNSIGNED)?;
-    expect_read_itself::<u64>(alloc, UNSIGNED)?;
-    expect_read_itself::<usize>(alloc, UNSIGNED)?;
-    expect_read_itself::<i8>(alloc, SIGNED)?;
-    expect_read_itself::<i16>(alloc, SIGNED)?;
-    expect_read_itself::<i32>(alloc, SIGNED)?;
-    expect_read_itself::<i64>(alloc, SIGNED)?;
-    expect_read_itself::<isize>(alloc, SIGNED)
-}
-
 const NUMBERS: &str = r#"1 => same
 -1 => same
 -0 => 0
@@ -78,8 +63,19 @@ const SIGNED_KEYS: &str = r#"{"1":true} => same
 {1:true}"#;
 
 #[test]
-fn a_number_a_document_a_string_or_a_key(rt: HostRuntime) -> Result<(), Wrong> {
+fn a_number_is_read_by_its_type(rt: HostRuntime) -> Result<(), Wrong> {
     let alloc = rt.alloc();
+    // A signed integer alone may have a minus.
+    expect_read_itself::<u8>(alloc, UNSIGNED)?;
+    expect_read_itself::<u16>(alloc, UNSIGNED)?;
+    expect_read_itself::<u32>(alloc, UNSIGNED)?;
+    expect_read_itself::<u64>(alloc, UNSIGNED)?;
+    expect_read_itself::<usize>(alloc, UNSIGNED)?;
+    expect_read_itself::<i8>(alloc, SIGNED)?;
+    expect_read_itself::<i16>(alloc, SIGNED)?;
+    expect_read_itself::<i32>(alloc, SIGNED)?;
+    expect_read_itself::<i64>(alloc, SIGNED)?;
+    expect_read_itself::<isize>(alloc, SIGNED)?;
     expect_read_again::<Number>(alloc, NUMBERS)?;
     expect_read_again::<Value>(alloc, VALUES)?;
     expect_read_itself::<String>(alloc, STRINGS)?;

@@ -1,6 +1,7 @@
 //! Queues: lists, alone and nested, and written in order wherever their items stand in memory.
 
-use crate::tuples::{expect_each, is_taken};
+use crate::checks::is_taken;
+use crate::tuples::expect_each;
 use miniserde::error::Result;
 use miniserde::json::{from_str, to_string};
 use miniserde::write_and_read;
@@ -86,7 +87,7 @@ fn a_queue_is_a_list(rt: HostRuntime) -> std::result::Result<(), Wrong> {
         r#"[[], ["\u0062", "a\/"]] => [[],["b","a/"]]"#,
     )?;
     let pairs = r#"[[2,"b"],[1,"a"]]"#;
-    let taken = is_taken::<Option<VecDeque<(u8, String)>>>(alloc, pairs);
+    let taken = is_taken::<VecDeque<(u8, String)>>(alloc, pairs);
     expect_ok(taken, "a queue of pairs")
 }
 

@@ -7,8 +7,13 @@ use test_tables::{
     Wrong, expect_canonical_of, expect_one_value, expect_refused, expect_two_values,
 };
 
+const CANONICAL: &str = r#"{"b":[1, -0],"a":[]} => {"a":[],"b":[1,0]}
+{}  => {}"#;
+
+type Hashed = HashMap<String, u8, BuildHasherDefault<DefaultHasher>>;
+
 #[test]
-fn scalars_are_stable(rt: HostRuntime) -> std::result::Result<(), Wrong> {
+fn scalars_and_containers_are_stable(rt: HostRuntime) -> std::result::Result<(), Wrong> {
     let alloc = rt.alloc();
     expect_one_value::<()>(alloc, " null => null")?;
     expect_one_value::<bool>(alloc, "true  => true")?;
@@ -17,17 +22,7 @@ fn scalars_are_stable(rt: HostRuntime) -> std::result::Result<(), Wrong> {
     expect_one_value::<i8>(alloc, "-0 => 0")?;
     expect_one_value::<i64>(alloc, " -9223372036854775808 => -9223372036854775808")?;
     expect_one_value::<String>(alloc, r#""\u0061\/" => "a/""#)?;
-    expect_refused::<u8>(alloc, "-0")
-}
-
-const CANONICAL: &str = r#"{"b":[1, -0],"a":[]} => {"a":[],"b":[1,0]}
-{}  => {}"#;
-
-type Hashed = HashMap<String, u8, BuildHasherDefault<DefaultHasher>>;
-
-#[test]
-fn containers_are_stable(rt: HostRuntime) -> std::result::Result<(), Wrong> {
-    let alloc = rt.alloc();
+    expect_refused::<u8>(alloc, "-0")?;
     expect_one_value::<Vec<Option<u8>>>(alloc, "[1, null ] => [1,null]")?;
     expect_one_value::<[i8; 2]>(alloc, "[-0, -1] => [0,-1]")?;
     expect_one_value::<(String, Box<bool>)>(alloc, r#"["\u0061", true] => ["a",true]"#)?;

@@ -1,8 +1,9 @@
 //! Optional and boxed values, borrowed texts and references.
 
+use crate::checks::is_written;
+use miniserde::FromJson;
 use miniserde::error::Result;
-use miniserde::json::{from_str, to_string};
-use miniserde::{FromJson, Serialize};
+use miniserde::json::from_str;
 use std::alloc::Global;
 use std::borrow::CowStr;
 use test_tables::{Wrong, expect_ok, expect_read_again, expect_read_itself, expect_table};
@@ -36,11 +37,6 @@ fn an_optional_or_boxed_value_is_the_value(rt: HostRuntime) -> std::result::Resu
     expect_table::<Box<u8>>(alloc, " 7  => 7\n0 => same\n255 => same\nnull\n[1]\n256")?;
     expect_read_again::<Box<Option<u8>>>(alloc, "null => same\n1 => same\n256")?;
     expect_read_itself::<Box<Vec<Box<u8>>>>(alloc, "[1,2] => same\n[1,null]")
-}
-
-/// Returns whether a value is written as expected.
-fn is_written<T: Serialize>(alloc: Global, value: &T, expected: &str) -> Result<bool> {
-    Ok(to_string(alloc, value)?.as_str() == expected)
 }
 
 /// Returns whether a text is written as expected by itself, owned and borrowed in each way.
