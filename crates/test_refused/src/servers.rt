@@ -220,19 +220,20 @@ impl FieldByField for Tls {
     }
 }
 
-/// A server.
+/// A server, with a field of a name with a dot, and one of the empty name.
 #[derive(Drop)]
 pub struct Server {
     pub name: String,
     pub inner: Tls,
     pub outer: Option<Tls>,
     pub hosts: Vec<Range>,
+    pub share: Option<u8>,
 }
 
 // Its fields, and their names.
-type ServerFields = FourSlot<String, Tls, Option<Tls>, Vec<Range>, NoSlot>;
+type ServerFields = FourSlot<String, Tls, Option<Tls>, Vec<Range>, Slot<Option<u8>, NoSlot>>;
 
-const SERVER_NAMES: &[&str] = &["server name", "inner", "outer", "hosts"];
+const SERVER_NAMES: &[&str] = &["server.name", "inner", "outer", "hosts", ""];
 
 impl Record for Server {
     ghost use Rattle.test_refused.specs.declared.servers.TheConstants.{SERVER_NAMES};
@@ -241,9 +242,15 @@ impl Record for Server {
 
     ghost names = { names_of SERVER_NAMES };
 
-    ghost values = { λ v. (v.name, (v.inner, (v.outer, (v.hosts, tt)))) };
+    ghost values = { λ v. (v.name, (v.inner, (v.outer, (v.hosts, (v.share, tt))))) };
 
-    ghost made = { λ x. record { name = x.0; inner = x.1.0; outer = x.1.1.0; hosts = x.1.1.1.0 } };
+    ghost made = { λ x. record {
+      name = x.0;
+      inner = x.1.0;
+      outer = x.1.1.0;
+      hosts = x.1.1.1.0;
+      share = x.1.1.1.1.0;
+    } };
 
     ghost bijective = { (λ v. refl, λ x. refl) };
 
@@ -254,12 +261,14 @@ impl Record for Server {
     }
 
     fn build(parts: Self::Values) -> Server {
-        let FourParts(name, inner, outer, hosts, ()) = take_four(parts);
+        let FourParts(name, inner, outer, hosts, parts) = take_four(parts);
+        let Parts(share, ()) = parts;
         Server {
             name,
             inner,
             outer,
             hosts,
+            share,
         }
     }
 }
@@ -285,7 +294,13 @@ impl Serialize for Server {
         write_members(
             w,
             SERVER_NAMES,
-            &FourLent(&self.name, &self.inner, &self.outer, &self.hosts, ()),
+            &FourLent(
+                &self.name,
+                &self.inner,
+                &self.outer,
+                &self.hosts,
+                Parts(&self.share, ()),
+            ),
         )
     }
 }
@@ -298,6 +313,7 @@ impl Ranged for Server {
         self.inner.ranged();
         self.outer.ranged();
         self.hosts.ranged();
+        self.share.ranged();
     }
 }
 
@@ -311,7 +327,11 @@ impl RoundTrip for Server {
 type ServerProbes = Probe<
     String,
     Plain,
-    ProbeInto<Tls, Plain, ProbeIntoOption<Tls, Plain, Probe<Vec<Range>, Plain, NoProbe>>>,
+    ProbeInto<
+        Tls,
+        Plain,
+        ProbeIntoOption<Tls, Plain, Probe<Vec<Range>, Plain, Probe<Option<u8>, Plain, NoProbe>>>,
+    >,
 >;
 
 impl FieldByField for Server {
@@ -325,96 +345,5 @@ impl FieldByField for Server {
 
     fn by_fields<W: Way>() {
         fields_give::<Server, ServerProbes, W>()
-    }
-}
-
-/// A name with a dot, and the empty name.
-#[derive(Drop)]
-pub struct Names {
-    pub dotted: u8,
-    pub empty: Option<u8>,
-}
-
-// Its fields, and their names.
-type NamesFields = Slot<u8, Slot<Option<u8>, NoSlot>>;
-
-const NAMES_NAMES: &[&str] = &["a.b", ""];
-
-impl Record for Names {
-    ghost use Rattle.test_refused.specs.declared.servers.TheConstants.{NAMES_NAMES};
-
-    type Values = <NamesFields as Slots>::Values;
-
-    ghost names = { names_of NAMES_NAMES };
-
-    ghost values = { λ v. (v.dotted, (v.empty, tt)) };
-
-    ghost made = { λ x. record { dotted = x.0; empty = x.1.0 } };
-
-    ghost bijective = { (λ v. refl, λ x. refl) };
-
-    ghost distinct_names = { refl };
-
-    fn names() -> &'static [&'static str] {
-        NAMES_NAMES
-    }
-
-    fn build(parts: Self::Values) -> Names {
-        let Parts(dotted, Parts(empty, ())) = parts;
-        Names { dotted, empty }
-    }
-}
-
-impl FromJson for Names {
-    ghost means = { struct_meaning ⟦<NamesFields as Slots>⟧.meaning ⟦<Names as Record>⟧.names
-        ⟦<Names as Record>⟧.values };
-
-    fn missing() -> Option<Names> {
-        None
-    }
-
-    fn read<'a>(token: Event<'a>, source: &mut Source<'a>) -> Result<Names> {
-        read_record::<Names, NamesFields>(token, source)
-    }
-}
-
-impl Serialize for Names {
-    ghost tree = { record_tree ⟦<Names as Record>⟧.names ⟦<NamesFields as WrittenFields>⟧.trees
-        ⟦<Names as Record>⟧.values };
-
-    fn begin(&self, w: &mut Writer) -> Result<()> {
-        write_members(w, NAMES_NAMES, &Parts(&self.dotted, Parts(&self.empty, ())))
-    }
-}
-
-impl Ranged for Names {
-    ghost real = { λ v. ⟦<NamesFields as WrittenFields>⟧.real (⟦<Names as Record>⟧.values v) };
-
-    fn ranged(&self) {
-        self.dotted.ranged();
-        self.empty.ranged();
-    }
-}
-
-impl RoundTrip for Names {
-    fn round_trips() {
-        record_round_trips::<Names, NamesFields>()
-    }
-}
-
-// Its fields, one by one.
-type NamesProbes = Probe<u8, Plain, Probe<Option<u8>, Plain, NoProbe>>;
-
-impl FieldByField for Names {
-    ghost wrong = { λ gives here. ⟦<NamesProbes as Probes>⟧.wrong gives here ⟦<Names as Record>⟧.names };
-
-    ghost right = { λ gives. ⟦<NamesProbes as Probes>⟧.right gives ⟦<Names as Record>⟧.names };
-
-    fn probe<W: Way>(alloc: Global, text: &str) -> Result<Option<FieldPath>> {
-        <NamesProbes as Probes>::probe::<W, NamesOf<Names>>(alloc, text)
-    }
-
-    fn by_fields<W: Way>() {
-        fields_give::<Names, NamesProbes, W>()
     }
 }

@@ -1,42 +1,45 @@
 //! Texts and the paths to the field that is wrong. A text that means a server, or is no JSON, has `none`, and one that
-//! is no object has `document`.
+//! is no object has `document`. A dot in a name is told from one between two names.
 
-use crate::servers::{Names, Server};
-use refused::{FieldByField, FieldPath, wrong_field};
+use crate::servers::Server;
+use refused::{FieldPath, wrong_field};
 use std::alloc::Global;
 use std::test::Fail;
 
 const PATHS: &str =
-    r#"{"server name":"a","inner":{"cert":"c","range":{"most":1}},"hosts":[]} => none
-{"server name":"a","inner":{"cert":"c","range":{"most":1}},"hosts":[],"more":{}} => none
-{"server name":"a","inner":{"cert":"c","range":{"most":1}},"outer":null,"hosts":[]} => none
-{"server name":"a","inner":{"cert":"c","range":{"most":1}},"hosts":[ => none
+    r#"{"server.name":"a","inner":{"cert":"c","range":{"most":1}},"hosts":[]} => none
+{"server.name":"a","inner":{"cert":"c","range":{"most":1}},"hosts":[],"more":{}} => none
+{"server.name":"a","inner":{"cert":"c","range":{"most":1}},"outer":null,"hosts":[]} => none
+{"server.name":"a","inner":{"cert":"c","range":{"most":1}},"hosts":[ => none
+{"server.name":"a","inner":{"cert":"c","range":{"most":1}},"hosts":[],"":null} => none
+{"server.name":"a","inner":{"cert":"c","range":{"most":1}},"hosts":[],"":[]} => ""
 nothing => none
 7 => document
 [] => document
-{} => server name
-{"server name":null,"inner":7} => server name
-{"name":"a","inner":7} => server name
-{"server name":7,"server name":"a","inner":{"cert":"c","range":{"most":1}},"hosts":[]} => server name
-{"server name":"a","hosts":[]} => inner
-{"server name":"a","inner":null,"hosts":[]} => inner
-{"server name":"a","inner":[],"hosts":[]} => inner
-{"server name":"a","inner":{},"hosts":[]} => inner.cert
-{"server name":"a","inner":{"cert":7,"range":7},"hosts":[]} => inner.cert
-{"server name":"a","inner":{"cert":"c","verify":7,"range":7},"hosts":[]} => inner.verify
-{"server name":"a","inner":{"cert":"c","verify":null},"hosts":[]} => inner.range
-{"server name":"a","inner":{"cert":"c","range":{}},"hosts":[]} => inner.range.most
-{"server name":"a","inner":{"cert":"c","range":{"most":1,"most":2}},"hosts":[]} => inner.range.most
-{"server name":"a","inner":{"cert":"c","range":{"most":1,"least":-1}},"hosts":[]} => inner.range.least
-{"server name":"a","inner":{"cert":"c","range":{"most":1}},"outer":7,"hosts":[]} => outer
-{"server name":"a","inner":{"cert":"c","range":{"most":1}},"outer":{"cert":7},"outer":null,"hosts":[]} => outer.cert
-{"server name":"a","inner":{"cert":"c","range":{"most":1}},"outer":{"cert":"c","range":{"most":65536}},"hosts":[]} => outer.range.most
-{"server name":"a","inner":{"cert":"c","range":{"most":1}}} => hosts
-{"server name":"a","inner":{"cert":"c","range":{"most":1}},"hosts":[{}]} => hosts"#;
+{} => server\.name
+{"server.name":null,"inner":7} => server\.name
+{"name":"a","inner":7} => server\.name
+{"server":{"name":"a"}} => server\.name
+{"server.name":7,"server.name":"a","inner":{"cert":"c","range":{"most":1}},"hosts":[]} => server\.name
+{"server.name":"a","hosts":[]} => inner
+{"server.name":"a","inner":null,"hosts":[]} => inner
+{"server.name":"a","inner":[],"hosts":[]} => inner
+{"server.name":"a","inner":{},"hosts":[]} => inner.cert
+{"server.name":"a","inner":{"cert":7,"range":7},"hosts":[]} => inner.cert
+{"server.name":"a","inner":{"cert":"c","verify":7,"range":7},"hosts":[]} => inner.verify
+{"server.name":"a","inner":{"cert":"c","verify":null},"hosts":[]} => inner.range
+{"server.name":"a","inner":{"cert":"c","range":{}},"hosts":[]} => inner.range.most
+{"server.name":"a","inner":{"cert":"c","range":{"most":1,"most":2}},"hosts":[]} => inner.range.most
+{"server.name":"a","inner":{"cert":"c","range":{"most":1,"least":-1}},"hosts":[]} => inner.range.least
+{"server.name":"a","inner":{"cert":"c","range":{"most":1}},"outer":7,"hosts":[]} => outer
+{"server.name":"a","inner":{"cert":"c","range":{"most":1}},"outer":{"cert":7},"outer":null,"hosts":[]} => outer.cert
+{"server.name":"a","inner":{"cert":"c","range":{"most":1}},"outer":{"cert":"c","range":{"most":65536}},"hosts":[]} => outer.range.most
+{"server.name":"a","inner":{"cert":"c","range":{"most":1}}} => hosts
+{"server.name":"a","inner":{"cert":"c","range":{"most":1}},"hosts":[{}]} => hosts"#;
 
 // Returns whether the path to the field that is wrong is written so.
-fn is_path<S: FieldByField>(alloc: Global, text: &str, wanted: &str) -> Result<bool, Fail> {
-    match wrong_field::<S>(alloc, text)? {
+fn is_path(alloc: Global, text: &str, wanted: &str) -> Result<bool, Fail> {
+    match wrong_field::<Server>(alloc, text)? {
         Some(path) if path.names.is_empty() => Ok(wanted == "document"),
         Some(path) => Ok(format!(in alloc; "{path}")?.as_str() == wanted),
         None => Ok(wanted == "none"),
@@ -47,18 +50,8 @@ fn is_path<S: FieldByField>(alloc: Global, text: &str, wanted: &str) -> Result<b
 fn a_path_leads_to_the_field_that_is_wrong(rt: HostRuntime) -> Result<(), Fail> {
     for line in PATHS.lines() {
         let (text, path) = line.split_once(" => ").unwrap_or((line, ""));
-        assert!(rt; is_path::<Server>(rt.alloc(), text, path)?, "{line}");
+        assert!(rt; is_path(rt.alloc(), text, path)?, "{line}");
     }
-    Ok(())
-}
-
-#[test]
-fn a_path_tells_a_dot_in_a_name_from_one_between_two(rt: HostRuntime) -> Result<(), Fail> {
-    let alloc = rt.alloc();
-    assert!(rt; is_path::<Names>(alloc, r#"{"a.b":null}"#, r"a\.b")?);
-    assert!(rt; is_path::<Names>(alloc, r#"{"a":{"b":1}}"#, r"a\.b")?);
-    assert!(rt; is_path::<Names>(alloc, r#"{"a.b":1,"":null}"#, "none")?);
-    assert!(rt; is_path::<Names>(alloc, r#"{"a.b":1,"":[]}"#, r#""""#)?);
     Ok(())
 }
 
@@ -94,9 +87,9 @@ fn has_names(alloc: Global, text: &str, names: &[&str]) -> Result<bool, Fail> {
 #[test]
 fn a_path_has_the_names_in_their_order(rt: HostRuntime) -> Result<(), Fail> {
     let alloc = rt.alloc();
-    let text = r#"{"server name":"a","inner":{"cert":"c","range":{}},"hosts":[]}"#;
+    let text = r#"{"server.name":"a","inner":{"cert":"c","range":{}},"hosts":[]}"#;
     assert!(rt; has_names(alloc, text, ["inner", "range", "most"].as_slice())?);
-    assert!(rt; has_names(alloc, "{}", ["server name"].as_slice())?);
+    assert!(rt; has_names(alloc, "{}", ["server.name"].as_slice())?);
     assert!(rt; has_names(alloc, "[]", FieldPath::new(alloc).names.as_slice())?);
     Ok(())
 }

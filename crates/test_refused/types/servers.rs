@@ -11,16 +11,11 @@ pub struct Tls { // refused
     pub range: Range,
 }
 
-/// A server.
+/// A server, with a field of a name with a dot, and one of the empty name.
 pub struct Server { // refused
-    pub name: String, // rename "server name"
+    pub name: String, // rename "server.name"
     pub inner: Tls,
     pub outer: Option<Tls>,
     pub hosts: Vec<Range>,
-}
-
-/// A name with a dot, and the empty name.
-pub struct Names { // refused
-    pub dotted: u8, // rename "a.b"
-    pub empty: Option<u8>, // rename ""
+    pub share: Option<u8>, // rename ""
 }
