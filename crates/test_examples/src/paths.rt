@@ -1,5 +1,5 @@
-//! Texts and the paths to the field that is wrong. A text that means a server, or is no JSON, has `none`, and one that
-//! is no object has `document`. A dot in a name is told from one between two names.
+//! Texts of servers, and the paths to the field that is wrong. A text that means a server, or is no JSON, has `none`, and
+//! one that is no object has `document`. A dot in a name is told from one between two names.
 
 use crate::servers::Server;
 use refused::{FieldPath, wrong_field};

@@ -40,7 +40,7 @@ type RangeFields = OnceSlot<u16, MarkedSlot<u16, WithDefault<RangeLeastDefault>,
 const RANGE_NAMES: &[&str] = &["most", "least"];
 
 impl Record for Range {
-    ghost use Rattle.test_refused.specs.declared.servers.TheConstants.{RANGE_NAMES};
+    ghost use Rattle.test_examples.specs.declared.servers.TheConstants.{RANGE_NAMES};
 
     type Values = <RangeFields as Slots>::Values;
 
@@ -132,7 +132,7 @@ type TlsFields = Slot<String, OmitSlot<bool, Plain, Slot<Range, NoSlot>>>;
 const TLS_NAMES: &[&str] = &["cert", "verify", "range"];
 
 impl Record for Tls {
-    ghost use Rattle.test_refused.specs.declared.servers.TheConstants.{TLS_NAMES};
+    ghost use Rattle.test_examples.specs.declared.servers.TheConstants.{TLS_NAMES};
 
     type Values = <TlsFields as Slots>::Values;
 
@@ -236,7 +236,7 @@ type ServerFields = FourSlot<String, Tls, Option<Tls>, Vec<Range>, Slot<Option<u
 const SERVER_NAMES: &[&str] = &["server.name", "inner", "outer", "hosts", ""];
 
 impl Record for Server {
-    ghost use Rattle.test_refused.specs.declared.servers.TheConstants.{SERVER_NAMES};
+    ghost use Rattle.test_examples.specs.declared.servers.TheConstants.{SERVER_NAMES};
 
     type Values = <ServerFields as Slots>::Values;
 
