@@ -7,12 +7,13 @@ use std::alloc::Global;
 use std::test::Fail;
 
 const PATHS: &str =
-    r#"{"server.name":"a","inner":{"cert":"c","range":{"most":1}},"hosts":[]} => none
-{"server.name":"a","inner":{"cert":"c","range":{"most":1}},"hosts":[],"more":{}} => none
-{"server.name":"a","inner":{"cert":"c","range":{"most":1}},"outer":null,"hosts":[]} => none
-{"server.name":"a","inner":{"cert":"c","range":{"most":1}},"hosts":[ => none
-{"server.name":"a","inner":{"cert":"c","range":{"most":1}},"hosts":[],"":null} => none
-{"server.name":"a","inner":{"cert":"c","range":{"most":1}},"hosts":[],"":[]} => ""
+    r#"{"server.name":"a","inner":{"cert":"c","verify":true},"range":{"most":1},"hosts":[]} => none
+{"server.name":"a","inner":{"cert":"c","verify":true},"range":{"most":1},"hosts":[],"more":{}} => none
+{"server.name":"a","inner":{"cert":"c","verify":true},"outer":null,"range":{"most":1},"hosts":[]} => none
+{"server.name":"a","inner":{"cert":"c","verify":true},"range":{"most":1},"hosts":[ => none
+{"server.name":"a","inner":{"cert":"c","verify":true},"range":{"most":1},"hosts":[],"":null,"settings":null} => none
+{"server.name":"a","inner":{"cert":"c","verify":true},"range":{"most":1},"hosts":[],"settings":{"name":"a","port":1,"tls":null,"hosts":[],"limits":{}}} => none
+{"server.name":"a","inner":{"cert":"c","verify":true},"range":{"most":1},"hosts":[],"":[]} => ""
 nothing => none
 7 => document
 [] => document
@@ -20,22 +21,26 @@ nothing => none
 {"server.name":null,"inner":7} => server\.name
 {"name":"a","inner":7} => server\.name
 {"server":{"name":"a"}} => server\.name
-{"server.name":7,"server.name":"a","inner":{"cert":"c","range":{"most":1}},"hosts":[]} => server\.name
-{"server.name":"a","hosts":[]} => inner
-{"server.name":"a","inner":null,"hosts":[]} => inner
-{"server.name":"a","inner":[],"hosts":[]} => inner
-{"server.name":"a","inner":{},"hosts":[]} => inner.cert
-{"server.name":"a","inner":{"cert":7,"range":7},"hosts":[]} => inner.cert
-{"server.name":"a","inner":{"cert":"c","verify":7,"range":7},"hosts":[]} => inner.verify
-{"server.name":"a","inner":{"cert":"c","verify":null},"hosts":[]} => inner.range
-{"server.name":"a","inner":{"cert":"c","range":{}},"hosts":[]} => inner.range.most
-{"server.name":"a","inner":{"cert":"c","range":{"most":1,"most":2}},"hosts":[]} => inner.range.most
-{"server.name":"a","inner":{"cert":"c","range":{"most":1,"least":-1}},"hosts":[]} => inner.range.least
-{"server.name":"a","inner":{"cert":"c","range":{"most":1}},"outer":7,"hosts":[]} => outer
-{"server.name":"a","inner":{"cert":"c","range":{"most":1}},"outer":{"cert":7},"outer":null,"hosts":[]} => outer.cert
-{"server.name":"a","inner":{"cert":"c","range":{"most":1}},"outer":{"cert":"c","range":{"most":65536}},"hosts":[]} => outer.range.most
-{"server.name":"a","inner":{"cert":"c","range":{"most":1}}} => hosts
-{"server.name":"a","inner":{"cert":"c","range":{"most":1}},"hosts":[{}]} => hosts"#;
+{"server.name":7,"server.name":"a","inner":{"cert":"c","verify":true},"range":{"most":1},"hosts":[]} => server\.name
+{"server.name":"a","range":{"most":1},"hosts":[]} => inner
+{"server.name":"a","inner":null,"range":{"most":1},"hosts":[]} => inner
+{"server.name":"a","inner":[],"range":{"most":1},"hosts":[]} => inner
+{"server.name":"a","inner":{},"range":{"most":1},"hosts":[]} => inner.cert
+{"server.name":"a","inner":{"cert":7,"verify":7},"hosts":[]} => inner.cert
+{"server.name":"a","inner":{"cert":"c","verify":7},"hosts":[]} => inner.verify
+{"server.name":"a","inner":{"cert":"c","verify":true},"outer":null,"hosts":[]} => range
+{"server.name":"a","inner":{"cert":"c","verify":true},"range":{},"hosts":[]} => range.most
+{"server.name":"a","inner":{"cert":"c","verify":true},"range":{"most":1,"most":2},"hosts":[]} => range.most
+{"server.name":"a","inner":{"cert":"c","verify":true},"range":{"most":1,"least":-1},"hosts":[]} => range.least
+{"server.name":"a","inner":{"cert":"c","verify":true},"outer":7,"range":{"most":1},"hosts":[]} => outer
+{"server.name":"a","inner":{"cert":"c","verify":true},"outer":{"cert":7},"outer":null,"range":{"most":1},"hosts":[]} => outer.cert
+{"server.name":"a","inner":{"cert":"c","verify":true},"range":{"most":1},"hosts":[],"settings":[]} => settings
+{"server.name":"a","inner":{"cert":"c","verify":true},"range":{"most":1},"hosts":[],"settings":{"name":"a"}} => settings.port
+{"server.name":"a","inner":{"cert":"c","verify":true},"range":{"most":1},"hosts":[],"settings":{"name":"a","port":1,"tls":7,"hosts":[],"limits":{}}} => settings.tls
+{"server.name":"a","inner":{"cert":"c","verify":true},"range":{"most":1},"hosts":[],"settings":{"name":"a","port":1,"tls":{},"hosts":[],"limits":{}}} => settings.tls.cert
+{"server.name":"a","inner":{"cert":"c","verify":true},"range":{"most":1},"hosts":[],"settings":{"name":"a","port":1,"tls":{"cert":"c","verify":1,"verify":true},"hosts":[],"limits":{}}} => settings.tls.verify
+{"server.name":"a","inner":{"cert":"c","verify":true},"range":{"most":1}} => hosts
+{"server.name":"a","inner":{"cert":"c","verify":true},"range":{"most":1},"hosts":[{}]} => hosts"#;
 
 // Returns whether the path to the field that is wrong is written so.
 fn is_path(alloc: Global, text: &str, wanted: &str) -> Result<bool, Fail> {
@@ -87,8 +92,9 @@ fn has_names(alloc: Global, text: &str, names: &[&str]) -> Result<bool, Fail> {
 #[test]
 fn a_path_has_the_names_in_their_order(rt: HostRuntime) -> Result<(), Fail> {
     let alloc = rt.alloc();
-    let text = r#"{"server.name":"a","inner":{"cert":"c","range":{}},"hosts":[]}"#;
-    assert!(rt; has_names(alloc, text, ["inner", "range", "most"].as_slice())?);
+    let text =
+        r#"{"server.name":"a","inner":{"cert":"c","verify":true},"range":{"most":1},"hosts":[],"settings":{"name":"a","port":1,"tls":{},"hosts":[],"limits":{}}}"#;
+    assert!(rt; has_names(alloc, text, ["settings", "tls", "cert"].as_slice())?);
     assert!(rt; has_names(alloc, "{}", ["server.name"].as_slice())?);
     assert!(rt; has_names(alloc, "[]", FieldPath::new(alloc).names.as_slice())?);
     Ok(())

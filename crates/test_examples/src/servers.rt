@@ -14,6 +14,8 @@ use refused::{
     FieldByField, FieldPath, NamesOf, NoProbe, Probe, ProbeInto, ProbeIntoOption, Probes, Way,
     fields_give,
 };
+use settings::parts::Tls;
+use settings::types::Settings;
 
 /// How many connections a server takes.
 #[derive(Drop)]
@@ -118,122 +120,36 @@ impl FieldByField for Range {
     }
 }
 
-/// How a connection is secured.
-#[derive(Drop)]
-pub struct Tls {
-    pub cert: String,
-    pub verify: Option<bool>,
-    pub range: Range,
-}
-
-// Its fields, and their names.
-type TlsFields = Slot<String, OmitSlot<bool, Plain, Slot<Range, NoSlot>>>;
-
-const TLS_NAMES: &[&str] = &["cert", "verify", "range"];
-
-impl Record for Tls {
-    ghost use Rattle.test_examples.specs.declared.servers.TheConstants.{TLS_NAMES};
-
-    type Values = <TlsFields as Slots>::Values;
-
-    ghost names = { names_of TLS_NAMES };
-
-    ghost values = { λ v. (v.cert, (v.verify, (v.range, tt))) };
-
-    ghost made = { λ x. record { cert = x.0; verify = x.1.0; range = x.1.1.0 } };
-
-    ghost bijective = { (λ v. refl, λ x. refl) };
-
-    ghost distinct_names = { refl };
-
-    fn names() -> &'static [&'static str] {
-        TLS_NAMES
-    }
-
-    fn build(parts: Self::Values) -> Tls {
-        let Parts(cert, Parts(verify, Parts(range, ()))) = parts;
-        Tls {
-            cert,
-            verify,
-            range,
-        }
-    }
-}
-
-impl FromJson for Tls {
-    ghost means = { struct_meaning ⟦<TlsFields as Slots>⟧.meaning ⟦<Tls as Record>⟧.names ⟦<Tls as Record>⟧.values };
-
-    fn missing() -> Option<Tls> {
-        None
-    }
-
-    fn read<'a>(token: Event<'a>, source: &mut Source<'a>) -> Result<Tls> {
-        read_record::<Tls, TlsFields>(token, source)
-    }
-}
-
-impl Serialize for Tls {
-    ghost tree = { record_tree ⟦<Tls as Record>⟧.names ⟦<TlsFields as WrittenFields>⟧.trees ⟦<Tls as Record>⟧.values };
-
-    fn begin(&self, w: &mut Writer) -> Result<()> {
-        write_members(
-            w,
-            TLS_NAMES,
-            &Parts(
-                &self.cert,
-                Parts(Omitted(&self.verify), Parts(&self.range, ())),
-            ),
-        )
-    }
-}
-
-impl Ranged for Tls {
-    ghost real = { λ v. ⟦<TlsFields as WrittenFields>⟧.real (⟦<Tls as Record>⟧.values v) };
-
-    fn ranged(&self) {
-        self.cert.ranged();
-        self.verify.ranged();
-        self.range.ranged();
-    }
-}
-
-impl RoundTrip for Tls {
-    fn round_trips() {
-        record_round_trips::<Tls, TlsFields>()
-    }
-}
-
-// Its fields, one by one.
-type TlsProbes = Probe<String, Plain, Probe<Option<bool>, Plain, ProbeInto<Range, Plain, NoProbe>>>;
-
-impl FieldByField for Tls {
-    ghost wrong = { λ gives here. ⟦<TlsProbes as Probes>⟧.wrong gives here ⟦<Tls as Record>⟧.names };
-
-    ghost right = { λ gives. ⟦<TlsProbes as Probes>⟧.right gives ⟦<Tls as Record>⟧.names };
-
-    fn probe<W: Way>(alloc: Global, text: &str) -> Result<Option<FieldPath>> {
-        <TlsProbes as Probes>::probe::<W, NamesOf<Tls>>(alloc, text)
-    }
-
-    fn by_fields<W: Way>() {
-        fields_give::<Tls, TlsProbes, W>()
-    }
-}
-
 /// A server, with a field of a name with a dot, and one of the empty name.
 #[derive(Drop)]
 pub struct Server {
     pub name: String,
     pub inner: Tls,
     pub outer: Option<Tls>,
+    pub range: Range,
     pub hosts: Vec<Range>,
     pub share: Option<u8>,
+    pub settings: Option<Settings>,
 }
 
 // Its fields, and their names.
-type ServerFields = FourSlot<String, Tls, Option<Tls>, Vec<Range>, Slot<Option<u8>, NoSlot>>;
+type ServerFields = FourSlot<
+    String,
+    Tls,
+    Option<Tls>,
+    Range,
+    Slot<Vec<Range>, OmitSlot<u8, Plain, Slot<Option<Settings>, NoSlot>>>,
+>;
 
-const SERVER_NAMES: &[&str] = &["server.name", "inner", "outer", "hosts", ""];
+const SERVER_NAMES: &[&str] = &[
+    "server.name",
+    "inner",
+    "outer",
+    "range",
+    "hosts",
+    "",
+    "settings",
+];
 
 impl Record for Server {
     ghost use Rattle.test_examples.specs.declared.servers.TheConstants.{SERVER_NAMES};
@@ -242,14 +158,37 @@ impl Record for Server {
 
     ghost names = { names_of SERVER_NAMES };
 
-    ghost values = { λ v. (v.name, (v.inner, (v.outer, (v.hosts, (v.share, tt))))) };
+    ghost values = { λ v. (
+      v.name,
+      (
+        v.inner,
+        (
+          v.outer,
+          (
+            v.range,
+            (
+              v.hosts,
+              (
+                v.share,
+                (
+                  v.settings,
+                  tt,
+                ),
+              ),
+            ),
+          ),
+        ),
+      ),
+    ) };
 
     ghost made = { λ x. record {
       name = x.0;
       inner = x.1.0;
       outer = x.1.1.0;
-      hosts = x.1.1.1.0;
-      share = x.1.1.1.1.0;
+      range = x.1.1.1.0;
+      hosts = x.1.1.1.1.0;
+      share = x.1.1.1.1.1.0;
+      settings = x.1.1.1.1.1.1.0;
     } };
 
     ghost bijective = { (λ v. refl, λ x. refl) };
@@ -261,14 +200,16 @@ impl Record for Server {
     }
 
     fn build(parts: Self::Values) -> Server {
-        let FourParts(name, inner, outer, hosts, parts) = take_four(parts);
-        let Parts(share, ()) = parts;
+        let FourParts(name, inner, outer, range, parts) = take_four(parts);
+        let Parts(hosts, Parts(share, Parts(settings, ()))) = parts;
         Server {
             name,
             inner,
             outer,
+            range,
             hosts,
             share,
+            settings,
         }
     }
 }
@@ -298,8 +239,11 @@ impl Serialize for Server {
                 &self.name,
                 &self.inner,
                 &self.outer,
-                &self.hosts,
-                Parts(&self.share, ()),
+                &self.range,
+                Parts(
+                    &self.hosts,
+                    Parts(Omitted(&self.share), Parts(&self.settings, ())),
+                ),
             ),
         )
     }
@@ -312,8 +256,10 @@ impl Ranged for Server {
         self.name.ranged();
         self.inner.ranged();
         self.outer.ranged();
+        self.range.ranged();
         self.hosts.ranged();
         self.share.ranged();
+        self.settings.ranged();
     }
 }
 
@@ -330,7 +276,19 @@ type ServerProbes = Probe<
     ProbeInto<
         Tls,
         Plain,
-        ProbeIntoOption<Tls, Plain, Probe<Vec<Range>, Plain, Probe<Option<u8>, Plain, NoProbe>>>,
+        ProbeIntoOption<
+            Tls,
+            Plain,
+            ProbeInto<
+                Range,
+                Plain,
+                Probe<
+                    Vec<Range>,
+                    Plain,
+                    Probe<Option<u8>, Plain, ProbeIntoOption<Settings, Plain, NoProbe>>,
+                >,
+            >,
+        >,
     >,
 >;
 
