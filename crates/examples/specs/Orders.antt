@@ -1,5 +1,5 @@
 -- Orders, and what becomes of them.
-use Rattle.std.specs.Prelude.{◌+◌, ◌-◌, ◌^◌, min, true}
+use Rattle.std.specs.Prelude.{ℕ, ◌+◌, ◌-◌, ◌^◌, min, true}
 use Rattle.examples.specs.declared.order.Order.{Order}
 
 -- the order, paid
@@ -9,3 +9,7 @@ settled_of v = record v { paid = true }
 -- the order, of one more, and at most 2 ^ 32 - 1
 abbrev pub one_more_of : Order → Order
 one_more_of v = record v { quantity = min (v.quantity + 1) (2 ^ 32 - 1) }
+
+-- how many pieces the order is of
+abbrev pub quantity_of : Order → ℕ
+quantity_of v = v.quantity

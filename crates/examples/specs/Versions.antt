@@ -9,8 +9,8 @@ use Rattle.examples.specs.declared.tasks.State.{State}
 use Rattle.examples.specs.declared.tasks.State.TheVariants as new
 use Rattle.examples.specs.declared.tasks.OldTask.{OldTask}
 use Rattle.examples.specs.declared.tasks.Task.{Task}
-use Rattle.examples.specs.declared.users.OldUser.{OldUser}
-use Rattle.examples.specs.declared.users.User.{User}
+use Rattle.examples.specs.declared.old_order.OldOrder.{OldOrder}
+use Rattle.examples.specs.declared.order.Order.{Order}
 
 -- the tree has no member of the name
 abbrev pub Lacks : Name → Tree → Type 0
@@ -26,6 +26,6 @@ abbrev pub IsUpgraded : OldTask → Task → Type 0
 IsUpgraded v w = (w.id ≡ v.id) × (string_bytes w.name ≡ string_bytes v.title) × (w.state ≡ state_of v.state)
     × (w.retries ≡ 3) × (w.note ≡ None)
 
--- the user of version 2 has the old one's number and address
-abbrev pub IsSameUser : OldUser → User → Type 0
-IsSameUser v w = (w.id ≡ v.id) × (string_bytes w.email ≡ string_bytes v.mail)
+-- the order of version 2 has the old one's number, its count as the quantity, whether it is paid, and no note
+abbrev pub IsSameOrder : OldOrder → Order → Type 0
+IsSameOrder v w = (w.id ≡ v.id) × (w.quantity ≡ v.count) × (w.paid ≡ v.paid) × (w.note ≡ None)

@@ -2,10 +2,11 @@
 ghost use Rattle.std.specs.Prelude.{◌≡◌, ◌↔◌, ◌⊎◌, IfOk, Err, codes};
 ghost use Rattle.miniserde.specs.Tree.{Tree};
 ghost use Rattle.miniserde.specs.Value.{IsJson};
-ghost use Rattle.examples.specs.Versions.{Lacks, state_of, IsUpgraded, IsSameUser};
+ghost use Rattle.examples.specs.Versions.{Lacks, state_of, IsUpgraded, IsSameOrder};
 
+use crate::old_order::OldOrder;
+use crate::order::Order;
 use crate::tasks::{OldState, OldTask, State, Task};
-use crate::users::{OldUser, User};
 use miniserde::json::from_str;
 use miniserde::{Error, FromJson, Result};
 use std::alloc::Global;
@@ -31,22 +32,27 @@ pub fn colour_needed()
         → (v : OldTask) → ⟦<OldTask as FromJson>⟧.means.reads t v → ⊥ }
 {}
 
-/// Parses a user of either version.
-pub fn load_user(alloc: Global, text: &str) -> Result<User>
-    // The text means the user, or it means none of version 2, and an old one with the same number and address.
-    ensures ok { IfOk result (λ w. (t : Tree) × IsJson text.now t × (⟦<User as FromJson>⟧.means.reads t w
-        ⊎ (((u : User) → ⟦<User as FromJson>⟧.means.reads t u → ⊥)
-        × (v : OldUser) × ⟦<OldUser as FromJson>⟧.means.reads t v × IsSameUser v w))) }
+/// Parses an order of either version.
+pub fn load_order(alloc: Global, text: &str) -> Result<Order>
+    // The text means the order, or it means none of version 2, and an old one with as many pieces.
+    ensures ok { IfOk result (λ w. (t : Tree) × IsJson text.now t × (⟦<Order as FromJson>⟧.means.reads t w
+        ⊎ (((u : Order) → ⟦<Order as FromJson>⟧.means.reads t u → ⊥)
+        × (v : OldOrder) × ⟦<OldOrder as FromJson>⟧.means.reads t v × IsSameOrder v w))) }
 
-    // The text means no user of either version.
+    // The text means no order of either version.
     ensures invalid { result ≡ Err Error.Invalid → (t : Tree) → IsJson text.now t
-        → ((w : User) → ⟦<User as FromJson>⟧.means.reads t w → ⊥)
-        × ((v : OldUser) → ⟦<OldUser as FromJson>⟧.means.reads t v → ⊥) }
+        → ((w : Order) → ⟦<Order as FromJson>⟧.means.reads t w → ⊥)
+        × ((v : OldOrder) → ⟦<OldOrder as FromJson>⟧.means.reads t v → ⊥) }
 {
-    match from_str::<User>(alloc, text) {
+    match from_str::<Order>(alloc, text) {
         Err(Error::Invalid) => {
-            let OldUser { id, mail } = from_str(alloc, text)?;
-            Ok(User { id, email: mail })
+            let OldOrder { id, count, paid } = from_str(alloc, text)?;
+            Ok(Order {
+                id,
+                quantity: count,
+                paid,
+                note: None,
+            })
         }
         answer => answer,
     }

@@ -8,11 +8,11 @@ ghost use Rattle.miniserde.specs.Tree.{str};
 ghost use Rattle.std.specs.Prelude.{◌≡◌, Some, refl};
 
 use miniserde::derived::{
-    Deserialize, Error, Event, Field, FromJson, Global, Leaf, LeafPlace, Lossless, NeverNull,
-    NoField, NoSlot, Parts, PlacedRecord, Ranged, Record, RecordPlace, Result, RoundTrip,
-    Serialize, Slot, Slots, Source, Stable, Step, TextValue, Visitor, Writer, WrittenFields,
-    read_leaf, read_record, record_lossless, record_round_trips, record_stable,
-    text_value_from_step, text_value_round_trips, write_members, write_text_value,
+    Deserialize, Error, Event, FromJson, Global, Leaf, LeafPlace, Lossless, NeverNull, NoSlot,
+    Parts, Ranged, Record, Result, RoundTrip, Serialize, Slot, Slots, Source, Stable, Step,
+    TextValue, Visitor, Writer, WrittenFields, read_leaf, read_record, record_lossless,
+    record_round_trips, record_stable, text_value_from_step, text_value_round_trips, write_members,
+    write_text_value,
 };
 use uuid::Uuid;
 
@@ -220,49 +220,4 @@ impl Stable for Account {
     fn stable() {
         record_stable::<Account, AccountFields>()
     }
-}
-
-/// The place of a `Account`.
-#[derive(Drop)]
-pub struct AccountPlace {
-    place: RecordPlace<Account>,
-}
-
-impl PlacedRecord for Account {
-    type Fields = Field<AccountId, Field<String, Field<Option<AccountId>, NoField>>>;
-}
-
-impl Visitor for AccountPlace {
-    type Out = Account;
-
-    ghost meaning = { wrapper_meaning (λ p. p.place) ⟦<RecordPlace<Account> as Visitor>⟧.meaning };
-
-    fn begin(alloc: Global) -> Result<AccountPlace> {
-        Ok(AccountPlace {
-            place: <RecordPlace<Account> as Visitor>::begin(alloc)?,
-        })
-    }
-
-    fn step(&mut self, event: Step<'_>) -> Result<()> {
-        self.place.step(event)
-    }
-
-    fn refuse(&mut self, error: Error) -> Error {
-        self.place.refuse(error)
-    }
-
-    fn is_complete(&self) -> bool {
-        self.place.is_complete()
-    }
-
-    fn take(self) -> Result<Account> {
-        let AccountPlace { place } = self;
-        place.take()
-    }
-}
-
-impl Deserialize for Account {
-    type Place = AccountPlace;
-
-    fn tied() {}
 }

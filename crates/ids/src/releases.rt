@@ -6,9 +6,8 @@ ghost use Rattle.std.specs.Prelude.{◌≡◌, Some, refl};
 
 use crate::versions::ReadVersion;
 use miniserde::derived::{
-    Event, FromJson, Global, Leaf, Lossless, NeverNull, Ranged, Result, RoundTrip, Serialize,
-    Source, Stable, Step, TextValue, Writer, read_leaf, text_value_from_step,
-    text_value_round_trips, write_text_value,
+    Event, FromJson, Global, Leaf, Ranged, Result, RoundTrip, Serialize, Source, Step, TextValue,
+    Writer, read_leaf, text_value_from_step, text_value_round_trips, write_text_value,
 };
 
 /// The version of a release, with the text that it was read from.
@@ -65,16 +64,4 @@ impl RoundTrip for Release {
     fn round_trips() {
         text_value_round_trips::<Release>()
     }
-}
-
-impl Lossless for Release {
-    fn lossless() {}
-}
-
-impl NeverNull for Release {
-    fn never_null() {}
-}
-
-impl Stable for Release {
-    fn stable() {}
 }

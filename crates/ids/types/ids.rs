@@ -5,7 +5,7 @@ use uuid::Uuid;
 pub struct AccountId(pub Uuid); // text, lossless, stable, events
 
 /// An account.
-pub struct Account { // lossless, stable, events
+pub struct Account { // lossless, stable
     pub id: AccountId,
     pub name: String,
     pub parent: Option<AccountId>,

@@ -87,15 +87,15 @@ fn a_type_is_read_by_its_place(rt: HostRuntime) -> std::result::Result<(), Wrong
 }
 
 #[test]
-fn prices_are_summed(rt: HostRuntime) -> std::result::Result<(), Wrong> {
+fn quantities_are_summed(rt: HostRuntime) -> std::result::Result<(), Wrong> {
     let alloc = rt.alloc();
-    let none = r#"{"owner":"a","prices":[]}"#;
-    expect(matches!(total(alloc, none), Ok(Some(0))), "none")?;
-    let three = r#"{"prices":[7,0,5],"owner":"a"}"#;
+    expect(matches!(total(alloc, "[]"), Ok(Some(0))), "none")?;
+    let three =
+        r#"[{"id":1,"quantity":7,"paid":true},{"id":9,"quantity":0,"paid":true},{"paid":false,"quantity":5,"id":1}]"#;
     expect(matches!(total(alloc, three), Ok(Some(12))), "three")?;
-    let large = r#"{"owner":"a","prices":[18446744073709551615,1]}"#;
+    let large = r#"[{"id":1,"quantity":4294967295,"paid":true},{"id":2,"quantity":1,"paid":true}]"#;
     expect(matches!(total(alloc, large), Ok(None)), "out of range")?;
-    for text in "[]\n{\"owner\":\"a\"}\n{\"owner\":\"a\",\"prices\":[-1]}".lines() {
+    for text in "{}\n[{\"id\":1}]\n[{\"id\":1,\"quantity\":-1,\"paid\":true}]".lines() {
         expect(matches!(total(alloc, text), Err(Error::Invalid)), text)?;
     }
     Ok(())

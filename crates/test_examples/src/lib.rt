@@ -1,8 +1,9 @@
-//! Tests of the crates `examples` and `settings`. Nothing here is for users.
+//! Tests of the crates `examples`, `settings` and `refused`. Nothing here is for users.
 #![tactic(auto)]
 
 #[cfg(test)]
 mod actions;
+#[cfg(test)]
 mod callers;
 #[cfg(test)]
 mod commands;
@@ -10,6 +11,9 @@ mod commands;
 mod loading;
 #[cfg(test)]
 mod pages;
+#[cfg(test)]
+mod paths;
+pub mod servers;
 #[cfg(test)]
 mod services;
 #[cfg(test)]

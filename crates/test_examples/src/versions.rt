@@ -1,8 +1,7 @@
 //! What texts of an earlier version mean.
 
 use examples::tasks::{OldTask, Task};
-use examples::users::User;
-use examples::versions::load_user;
+use examples::versions::load_order;
 use miniserde::error::Result;
 use miniserde::json::to_string;
 use std::alloc::Global;
@@ -22,26 +21,26 @@ const OLD_TASKS: &str = r#"{"id":1,"title":"a","state":"done","colour":7} => sam
 {"id":1,"title":"a","state":"done","retries":3,"note":null}
 {"id":1,"title":"a","state":"failed","colour":7}"#;
 
-const USERS: &str = r#"{"id":1,"email":"a"} => same
-{"id":1,"mail":"a"} => {"id":1,"email":"a"}
-{"id":1,"mail":"a","email":"b"} => {"id":1,"email":"b"}
-{"id":1,"mail":"a","email":null} => {"id":1,"email":"a"}
-{"id":1}
-{"id":1,"mail":null}"#;
+const ORDERS: &str =
+    r#"{"id":1,"quantity":2,"paid":true} => {"id":1,"quantity":2,"paid":true,"note":null}
+{"id":1,"count":2,"paid":true} => {"id":1,"quantity":2,"paid":true,"note":null}
+{"id":1,"count":2,"quantity":3,"paid":true} => {"id":1,"quantity":3,"paid":true,"note":null}
+{"id":1,"count":2,"quantity":null,"paid":true,"note":"n"} => {"id":1,"quantity":2,"paid":true,"note":null}
+{"id":1,"paid":true}
+{"id":1,"count":null,"paid":true}"#;
 
-/// Returns the text of the user that a text of either version means.
-fn user_of(alloc: Global, text: &str) -> Result<String> {
-    let user: User = load_user(alloc, text)?;
-    to_string(alloc, &user)
+/// Returns the text of the order that a text of either version means.
+fn order_of(alloc: Global, text: &str) -> Result<String> {
+    to_string(alloc, &load_order(alloc, text)?)
 }
 
 #[test]
-fn a_task_or_a_user_of_version_1_is_read(rt: HostRuntime) -> std::result::Result<(), Wrong> {
+fn a_task_or_an_order_of_version_1_is_read(rt: HostRuntime) -> std::result::Result<(), Wrong> {
     let alloc = rt.alloc();
     expect_read_again::<Task>(alloc, TASKS)?;
     expect_read_again::<OldTask>(alloc, OLD_TASKS)?;
-    for line in USERS.lines() {
-        expect(is_right(user_of(alloc, text_of(line)), line), line)?;
+    for line in ORDERS.lines() {
+        expect(is_right(order_of(alloc, text_of(line)), line), line)?;
     }
     Ok(())
 }

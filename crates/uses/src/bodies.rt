@@ -1,4 +1,4 @@
-//! The body of a request: a struct with an optional text, a list of structs and a part of any shape.
+//! The body of a request: a struct with an optional text, a map and a part of any shape.
 ghost use Rattle.std.specs.Prelude.{◌≡◌, IfOk, Err, String, string_bytes};
 ghost use Rattle.miniserde.specs.Tree.{Tree};
 ghost use Rattle.miniserde.specs.Value.{IsJson};

@@ -8,18 +8,17 @@ mod loading;
 mod request;
 mod requests;
 mod signed;
-mod transfer;
 
 use miniserde::Result;
 use miniserde::json::{from_str, to_string};
 use refused::wrong_field;
 use request::Request;
+use settings::parts::Host;
 use settings::types::Settings;
 use signed::Known;
 use std::alloc::Global;
 use std::collections::BTreeMap;
 use std::io;
-use transfer::Transfer;
 
 /// Two documents that say the same, the first one cached: what the cache has for the second.
 fn run_cache(alloc: Global) -> Result<Option<u64>> {
@@ -39,25 +38,23 @@ fn found(alloc: Global, body: &str) -> Result<Option<String>> {
     }
 }
 
-/// Returns the text of the transfer of a body, if the canonical text of the body is the one that was signed.
-fn run_transfer(alloc: Global, signed: &str, body: &str) -> Result<Option<String>> {
+/// Returns the text of the host of a body, if the canonical text of the body is the one that was signed.
+fn run_host(alloc: Global, signed: &str, body: &str) -> Result<Option<String>> {
     let signature = Known {
         text: String::from_str(alloc, signed)?,
     };
-    match signed::accepted::<Transfer, Known>(alloc, &signature, body)? {
-        Some(transfer) => Ok(Some(to_string(alloc, &transfer)?)),
+    match signed::accepted::<Host, Known>(alloc, &signature, body)? {
+        Some(host) => Ok(Some(to_string(alloc, &host)?)),
         None => Ok(None),
     }
 }
 
-/// A transfer, two bodies, and what a client signed: its canonical text.
-const TRANSFER: &str = r#"{"from":"a","to":"b","cents":5}"#;
+/// Two bodies, and what a client signed: the canonical text of the first one.
+const SAME: &str = r#" {"weight": 5, "of": [], "host": "\u0062"}"#;
 
-const SAME: &str = r#" {"cents": 5, "to": "\u0062", "from": "a"}"#;
+const OTHER: &str = r#"{"host":"b","of":[],"weight":50}"#;
 
-const OTHER: &str = r#"{"from":"a","to":"b","cents":50}"#;
-
-const SIGNED: &str = r#"{"cents":5,"from":"a","to":"b"}"#;
+const SIGNED: &str = r#"{"host":"b","of":[],"weight":5}"#;
 
 /// Returns whether a body of more than four kilobytes is accepted if its canonical text was signed.
 fn is_large_body_accepted(alloc: Global) -> Result<bool> {
@@ -65,19 +62,19 @@ fn is_large_body_accepted(alloc: Global) -> Result<bool> {
     for _ in 0..5000 {
         name.push_str("n")?;
     }
-    let signed = format!(in alloc; "{{\"cents\":5,\"from\":\"{name}\",\"to\":\"b\"}}")?;
-    let body = format!(in alloc; "{{\"from\":\"{name}\",\"to\":\"b\",\"cents\":5}}")?;
-    match run_transfer(alloc, signed.as_str(), body.as_str())? {
-        Some(transfer) => Ok(transfer.as_str() == body.as_str()),
+    let signed = format!(in alloc; "{{\"host\":\"{name}\",\"weight\":5}}")?;
+    let body = format!(in alloc; " {{\"weight\":5,\"host\":\"{name}\"}}")?;
+    match run_host(alloc, signed.as_str(), body.as_str())? {
+        Some(host) => Ok(host.as_str() == signed.as_str()),
         None => Ok(false),
     }
 }
 
-/// Prints the transfers of bodies whose canonical text was signed.
-fn tell_transfers(rt: &HostRuntime) -> io::Result<()> {
+/// Prints the hosts of bodies whose canonical text was signed.
+fn tell_hosts(rt: &HostRuntime) -> io::Result<()> {
     for body in [SAME, OTHER] {
-        match run_transfer(rt.alloc(), SIGNED, body) {
-            Ok(Some(transfer)) => println!(rt; "signed: {transfer}")?,
+        match run_host(rt.alloc(), SIGNED, body) {
+            Ok(Some(host)) => println!(rt; "signed: {host}")?,
             Ok(None) => println!(rt; "signed: nothing")?,
             Err(error) => println!(rt; "signed: {error}")?,
         }
@@ -124,8 +121,7 @@ fn main(rt: HostRuntime) -> io::Result<()> {
         Ok(None) => println!(rt; "cache: nothing")?,
         Err(error) => println!(rt; "cache: {error}")?,
     }
-    let body =
-        "{\"besides\":{\"b\":[1.50],\"a\":null},\"items\":[{\"goods\":\"nails\",\"count\":100}],\"client\":\"c\"}";
+    let body = "{\"besides\":{\"b\":[1.50],\"a\":null},\"items\":{\"nails\":100},\"client\":\"c\"}";
     match bodies::add_note(alloc, body, "by noon") {
         Ok(request) => println!(rt; "request: {request}")?,
         Err(error) => println!(rt; "request: {error}")?,
@@ -135,6 +131,6 @@ fn main(rt: HostRuntime) -> io::Result<()> {
         Ok(None) => println!(rt; "found: nothing")?,
         Err(error) => println!(rt; "found: {error}")?,
     }
-    tell_transfers(&rt)?;
+    tell_hosts(&rt)?;
     tell(&rt)
 }

@@ -4,95 +4,24 @@ ghost use Rattle.miniserde.specs.Structs.{names_of, record_tree};
 ghost use Rattle.std.specs.Prelude.{refl};
 
 use miniserde::derived::{
-    Event, FourLent, FourParts, FourSlot, FromJson, NoSlot, Parts, Ranged, Record, Result,
-    RoundTrip, Serialize, Slot, Slots, Source, Writer, WrittenFields, read_record,
-    record_round_trips, take_four, write_members,
+    Event, FourLent, FourParts, FourSlot, FromJson, NoSlot, Ranged, Record, Result, RoundTrip,
+    Serialize, Slots, Source, Writer, WrittenFields, read_record, record_round_trips, take_four,
+    write_members,
 };
 use miniserde::json::Value;
+use std::collections::BTreeMap;
 
-/// One kind of goods of a request.
-#[derive(Drop)]
-pub struct Item {
-    pub goods: String,
-    pub count: u32,
-}
-
-// Its fields, and their names.
-type ItemFields = Slot<String, Slot<u32, NoSlot>>;
-
-const ITEM_NAMES: &[&str] = &["goods", "count"];
-
-impl Record for Item {
-    ghost use Rattle.uses.specs.declared.request.TheConstants.{ITEM_NAMES};
-
-    type Values = <ItemFields as Slots>::Values;
-
-    ghost names = { names_of ITEM_NAMES };
-
-    ghost values = { λ v. (v.goods, (v.count, tt)) };
-
-    ghost made = { λ x. record { goods = x.0; count = x.1.0 } };
-
-    ghost bijective = { (λ v. refl, λ x. refl) };
-
-    ghost distinct_names = { refl };
-
-    fn names() -> &'static [&'static str] {
-        ITEM_NAMES
-    }
-
-    fn build(parts: Self::Values) -> Item {
-        let Parts(goods, Parts(count, ())) = parts;
-        Item { goods, count }
-    }
-}
-
-impl FromJson for Item {
-    ghost means = { struct_meaning ⟦<ItemFields as Slots>⟧.meaning ⟦<Item as Record>⟧.names ⟦<Item as Record>⟧.values };
-
-    fn missing() -> Option<Item> {
-        None
-    }
-
-    fn read<'a>(token: Event<'a>, source: &mut Source<'a>) -> Result<Item> {
-        read_record::<Item, ItemFields>(token, source)
-    }
-}
-
-impl Serialize for Item {
-    ghost tree = { record_tree ⟦<Item as Record>⟧.names ⟦<ItemFields as WrittenFields>⟧.trees ⟦<Item as Record>⟧.values };
-
-    fn begin(&self, w: &mut Writer) -> Result<()> {
-        write_members(w, ITEM_NAMES, &Parts(&self.goods, Parts(&self.count, ())))
-    }
-}
-
-impl Ranged for Item {
-    ghost real = { λ v. ⟦<ItemFields as WrittenFields>⟧.real (⟦<Item as Record>⟧.values v) };
-
-    fn ranged(&self) {
-        self.goods.ranged();
-        self.count.ranged();
-    }
-}
-
-impl RoundTrip for Item {
-    fn round_trips() {
-        record_round_trips::<Item, ItemFields>()
-    }
-}
-
-/// What a client asks for. Its member `besides` may be any JSON; members of other names are skipped.
+/// What a client asks for: how many of each kind of goods. Its member `besides` may be any JSON; members of other names are skipped.
 #[derive(Drop)]
 pub struct Request {
     pub client: String,
     pub note: Option<String>,
-    pub items: Vec<Item>,
+    pub items: BTreeMap<String, u32>,
     pub besides: Value,
 }
 
 // Its fields, and their names.
-type RequestFields = FourSlot<String, Option<String>, Vec<Item>, Value, NoSlot>;
+type RequestFields = FourSlot<String, Option<String>, BTreeMap<String, u32>, Value, NoSlot>;
 
 const REQUEST_NAMES: &[&str] = &["client", "note", "items", "besides"];
 

@@ -1,15 +1,10 @@
 use miniserde::json::Value;
+use std::collections::BTreeMap;
 
-/// One kind of goods of a request.
-pub struct Item {
-    pub goods: String,
-    pub count: u32,
-}
-
-/// What a client asks for. Its member `besides` may be any JSON; members of other names are skipped.
+/// What a client asks for: how many of each kind of goods. Its member `besides` may be any JSON; members of other names are skipped.
 pub struct Request {
     pub client: String,
     pub note: Option<String>,
-    pub items: Vec<Item>,
+    pub items: BTreeMap<String, u32>,
     pub besides: Value,
 }

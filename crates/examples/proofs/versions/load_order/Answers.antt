@@ -1,6 +1,6 @@
--- The old user that was read has what the new one has.
-use Rattle.std.proofs.Common.{Err, ap, inr}
-use Rattle.examples.proofs.versions.load_user.Goals as goal
+-- The old order that was read has what the new one has.
+use Rattle.std.proofs.Common.{Err, ap, inr, refl}
+use Rattle.examples.proofs.versions.load_order.Goals as goal
 
 pub returns-in_ok-id-in-Err-Invalid-clause-ok : goal.returns-in_ok-id-in-Err-Invalid-clause-ok
 returns-in_ok-id-in-Err-Invalid-clause-ok c =
@@ -11,6 +11,6 @@ returns-in_ok-id-in-Err-Invalid-clause-ok c =
         c.in-Err-Invalid.ensures.invalid (ap Err c.in-Err-Invalid.field-0-is) r.0 r.1,
         c.in_ok-id-in-Err-Invalid.field-0,
         r.2,
-        (cc, cc),
+        (cc, cc, cc, refl),
       ),
     )

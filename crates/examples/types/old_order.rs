@@ -1,0 +1,6 @@
+/// An order, as version 1 stores it.
+pub struct OldOrder {
+    pub id: u64,
+    pub count: u32,
+    pub paid: bool,
+}

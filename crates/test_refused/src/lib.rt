@@ -1,6 +1,0 @@
-//! Which field is wrong of structs within structs, with marks.
-#![tactic(auto)]
-
-pub mod servers;
-#[cfg(test)]
-mod tests;
