@@ -13,7 +13,8 @@ mod loading;
 mod pages;
 #[cfg(test)]
 mod paths;
-pub mod servers;
+#[cfg(test)]
+mod servers;
 #[cfg(test)]
 mod services;
 #[cfg(test)]
