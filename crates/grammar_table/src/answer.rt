@@ -1,18 +1,20 @@
 //! What the program answers to a text.
 
+use crate::notation::Spelled;
 use crate::row::Verdict;
 use miniserde_program::canon::{Counted, program};
 use std::alloc::Global;
+use std::fmt;
 
 /// How a run of the program ended.
 #[derive(Drop)]
 pub struct Answer {
     /// The exit status.
-    pub status: u8,
+    status: u8,
     /// The line on standard error, which is empty for none.
-    pub line: &'static str,
+    line: &'static str,
     /// What went to standard output.
-    pub written: Vec<u8>,
+    written: Vec<u8>,
 }
 
 impl Answer {
@@ -37,5 +39,16 @@ impl Answer {
             Verdict::Refused => (1, "canon: invalid text", [].as_slice()),
         };
         self.status == status && self.line == line && self.written.as_slice() == written
+    }
+}
+
+impl fmt::Display for Answer {
+    fn fmt<W: fmt::Write>(&self, f: &mut fmt::Formatter<W>) -> fmt::Result {
+        let written = Spelled(self.written.as_slice());
+        write!(
+            f,
+            "status {}, line \"{}\", text {written}",
+            self.status, self.line
+        )
     }
 }

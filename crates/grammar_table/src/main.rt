@@ -7,7 +7,6 @@ mod notation;
 mod row;
 
 use answer::Answer;
-use notation::Spelled;
 use row::{Row, Verdict};
 use std::process::ExitCode;
 use std::{fs, io};
@@ -36,16 +35,14 @@ impl Tally {
     ) -> io::Result<()> {
         let Some(row) = Row::parse(rt.alloc(), line)? else {
             self.other = self.other.saturating_add(1);
-            return println!(rt; "line {number}: no row of a table");
+            println!(rt; "line {number}: no row of a table")?;
+            return Ok(());
         };
         let answer = Answer::of(rt.alloc(), row.text.as_slice());
         if !answer.agrees_with(&row.verdict) {
             self.other = self.other.saturating_add(1);
-            let written = Spelled(answer.written.as_slice());
-            return println!(rt;
-                "line {number}, {}: came status {}, line \"{}\", text {written}",
-                row.rule, answer.status, answer.line
-            );
+            println!(rt; "line {number}, {}: came {answer}", row.rule)?;
+            return Ok(());
         }
         let counter = match row.verdict {
             Verdict::Accepted(_) => &mut self.accepted,
