@@ -6,7 +6,7 @@ use crate::ids::{Account, AccountId};
 use crate::releases::Release;
 use crate::requests::{RequestError, addressed};
 use miniserde::json::{feed, from_str, to_string};
-use miniserde::{Deserialize, Error, Result};
+use miniserde::{Deserialize, Error, Result, Serialize};
 use std::alloc::Global;
 use std::test::Fail;
 use test_tables::{Wrong, expect_read_again, expect_read_itself};
@@ -52,12 +52,12 @@ fn texts_of_identifiers_and_releases(rt: HostRuntime) -> std::result::Result<(),
     expect_read_again::<Release>(rt.alloc(), RELEASES)
 }
 
-// Returns the text of the identifier that its place takes from a text.
-fn id_by_events(alloc: Global, text: &str) -> Result<String> {
-    let mut place = <AccountId as Deserialize>::begin(alloc)?;
+// Returns the text of the value that a type's place takes from a text.
+fn by_events<T: Deserialize + Serialize>(alloc: Global, text: &str) -> Result<String> {
+    let mut place = <T as Deserialize>::begin(alloc)?;
     feed(alloc, text, &mut place)?;
-    let id = <AccountId as Deserialize>::take(place)?;
-    to_string(alloc, &id)
+    let value = <T as Deserialize>::take(place)?;
+    to_string(alloc, &value)
 }
 
 #[test]
@@ -70,8 +70,8 @@ fn calls_and_places(rt: HostRuntime) -> std::result::Result<(), Fail> {
     assert_eq!(rt; to_string(alloc, &again)?.as_str(), text);
     let id = "\"67e55044-10b1-426f-9247-bb680e5fe0c8\"";
     assert_eq!(rt; to_string(alloc, &id_of(alloc, text)?)?.as_str(), id);
-    assert_eq!(rt; id_by_events(alloc, id)?.as_str(), id);
-    assert!(rt; id_by_events(alloc, "\"a\"").is_err());
+    assert_eq!(rt; by_events::<AccountId>(alloc, id)?.as_str(), id);
+    assert!(rt; by_events::<AccountId>(alloc, "\"a\"").is_err());
     let release: Release = from_str(alloc, "\"1.2.3-a\"")?;
     assert_eq!(rt; release.0.version().minor, 2);
     Ok(())
