@@ -22,6 +22,13 @@ fn is_canonical(alloc: Global, line: &str) -> Result<bool> {
     )
 }
 
+fn expect_canonical(alloc: Global, table: &'static str) -> std::result::Result<(), Wrong> {
+    for line in table.lines() {
+        expect_ok(is_canonical(alloc, line), line)?;
+    }
+    Ok(())
+}
+
 const DOCUMENTS: &str = r#"{"a":1,"b":-0} => {"a":1,"b":0}
  {"b":0,"a":2,"a":1} => {"a":1,"b":0}
 { "é" : "\u00e9\/" } => {"é":"é/"}
@@ -32,6 +39,41 @@ const DOCUMENTS: &str = r#"{"a":1,"b":-0} => {"a":1,"b":0}
 [1.0] => same
 [1.00] => same
 [-0.0] => same"#;
+
+#[test]
+fn order_repeats_and_space_count_for_nothing(rt: HostRuntime) -> std::result::Result<(), Wrong> {
+    expect_canonical(rt.alloc(), DOCUMENTS)?;
+    expect_ok(
+        is_canonical(rt.alloc(), "\t[\r\n]   => []"),
+        "each whitespace",
+    )
+}
+
+/// Returns whether a text and its canonical text have these lengths in bytes.
+fn has_lengths(alloc: Global, text: &str, lengths: (usize, usize)) -> Result<bool> {
+    Ok((text.len(), canonical(alloc, text)?.len()) == lengths)
+}
+
+#[test]
+fn a_canonical_text_is_the_shortest(rt: HostRuntime) -> std::result::Result<(), Wrong> {
+    let alloc = rt.alloc();
+    expect_ok(
+        has_lengths(alloc, r#"{ "é" : "\u00e9\/" }"#, (21, 12)),
+        "an escape and spaces",
+    )?;
+    expect_ok(
+        has_lengths(alloc, r#""\u001F""#, (8, 8)),
+        "a control character",
+    )?;
+    expect_ok(
+        has_lengths(alloc, r#""\uD834\uDD1E""#, (14, 6)),
+        "a pair of surrogates",
+    )?;
+    expect_ok(
+        has_lengths(alloc, r#"{"a":[[],[]],"a":-0}"#, (20, 7)),
+        "a repeat",
+    )
+}
 
 const ESCAPES: &str = r#""\"" => same
 "\u0022" => "\""
@@ -55,6 +97,11 @@ const ESCAPES: &str = r#""\"" => same
 "\r" => same
 "\u000d" => "\r"
 "\u000D" => "\r""#;
+
+#[test]
+fn a_character_with_an_escape_of_its_own(rt: HostRuntime) -> std::result::Result<(), Wrong> {
+    expect_canonical(rt.alloc(), ESCAPES)
+}
 
 const CHARACTERS: &str = "\"\\u0000\" => same
 \"\\u000b\" => same
@@ -82,6 +129,36 @@ const CHARACTERS: &str = "\"\\u0000\" => same
 \"\u{10ffff}\" => same
 \"\\udbff\\uDFFF\" => \"\u{10ffff}\"";
 
+#[test]
+fn a_character_of_each_length(rt: HostRuntime) -> std::result::Result<(), Wrong> {
+    expect_canonical(rt.alloc(), CHARACTERS)
+}
+
+/// Returns whether two texts have these canonical texts.
+fn are_canonical(alloc: Global, texts: (&str, &str), expected: (&str, &str)) -> Result<bool> {
+    let (left, right) = canonical_both(alloc, texts.0, texts.1)?;
+    Ok((left.as_str(), right.as_str()) == expected)
+}
+
+/// Returns whether two texts are invalid together.
+fn are_invalid(alloc: Global, left: &str, right: &str) -> bool {
+    matches!(canonical_both(alloc, left, right), Err(Error::Invalid))
+}
+
+#[test]
+fn two_texts_are_told_apart(rt: HostRuntime) -> std::result::Result<(), Wrong> {
+    let alloc = rt.alloc();
+    let (alike, canonical) = (r#"{"a":1,"b":-0}"#, r#"{"a":1,"b":0}"#);
+    let texts = (alike, r#" {"b":0,"a":2,"a":1}"#);
+    expect_ok(are_canonical(alloc, texts, (canonical, canonical)), "alike")?;
+    expect_ok(
+        are_canonical(alloc, ("[1e2]", "[100]"), ("[1e2]", "[100]")),
+        "two numbers",
+    )?;
+    expect(are_invalid(alloc, "1", "[1"), "the second is invalid")?;
+    expect(are_invalid(alloc, "[1", "1"), "the first is invalid")
+}
+
 const INVALID: &str = r#"
 [1
 {"a":1,}
@@ -90,64 +167,23 @@ const INVALID: &str = r#"
 1 2"#;
 
 #[test]
-fn order_repeats_and_space_count_for_nothing(rt: HostRuntime) -> std::result::Result<(), Wrong> {
-    let alloc = rt.alloc();
-    for table in [DOCUMENTS, ESCAPES, CHARACTERS] {
-        for line in table.lines() {
-            expect_ok(is_canonical(alloc, line), line)?;
-        }
-    }
-    let spaced = is_canonical(alloc, "\t[\r\n]   => []");
-    expect_ok(spaced, "each whitespace")?;
+fn an_invalid_text_has_no_canonical_text(rt: HostRuntime) -> std::result::Result<(), Wrong> {
     for text in INVALID.lines() {
-        let refused = matches!(canonical(alloc, text), Err(Error::Invalid));
-        expect(refused, text)?;
+        expect(
+            matches!(canonical(rt.alloc(), text), Err(Error::Invalid)),
+            text,
+        )?;
     }
     Ok(())
 }
 
-#[test]
-fn a_canonical_text_is_the_shortest(rt: HostRuntime) -> std::result::Result<(), Wrong> {
-    for (text, lengths) in [
-        (r#"{ "é" : "\u00e9\/" }"#, (21, 12)),
-        (r#""\u001F""#, (8, 8)),
-        (r#""\uD834\uDD1E""#, (14, 6)),
-        (r#"{"a":[[],[]],"a":-0}"#, (20, 7)),
-    ] {
-        let canonical = canonical(rt.alloc(), text)?;
-        expect((text.len(), canonical.len()) == lengths, text)?;
-    }
-    Ok(())
-}
-
-#[test]
-fn two_texts_are_told_apart(rt: HostRuntime) -> std::result::Result<(), Wrong> {
-    let alloc = rt.alloc();
-    let (one, other) = (r#"{"a":1,"b":-0}"#, r#" {"b":0,"a":2,"a":1}"#);
-    let (left, right) = canonical_both(alloc, one, other)?;
-    let expected = r#"{"a":1,"b":0}"#;
-    expect(
-        (left.as_str(), right.as_str()) == (expected, expected),
-        "alike",
-    )?;
-    let (left, right) = canonical_both(alloc, "[1e2]", "[100]")?;
-    expect(
-        (left.as_str(), right.as_str()) == ("[1e2]", "[100]"),
-        "two numbers",
-    )?;
-    for (left, right) in [("1", "[1"), ("[1", "1")] {
-        let both = canonical_both(alloc, left, right);
-        expect(matches!(both, Err(Error::Invalid)), "one is invalid")?;
-    }
-    Ok(())
+/// Returns whether a deep text that is canonical stays as it is.
+fn is_deep_text_kept(alloc: Global) -> Result<bool> {
+    let text = nested(alloc, 100_000, "{\"x\":[", "]}", "]}")?;
+    Ok(canonical(alloc, text.as_str())?.as_str() == text.as_str())
 }
 
 #[test]
 fn a_deep_text_is_canonical(rt: HostRuntime) -> std::result::Result<(), Wrong> {
-    let text = nested(rt.alloc(), 100_000, "{\"x\":[", "]}", "]}")?;
-    let canonical = canonical(rt.alloc(), text.as_str())?;
-    expect(
-        canonical.as_str() == text.as_str(),
-        "100,000 objects and arrays",
-    )
+    expect_ok(is_deep_text_kept(rt.alloc()), "100,000 objects and arrays")
 }

@@ -1,24 +1,20 @@
-//! Values of great depth, read, written, copied and released on a small stack.
+//! Values of great depth, read, written, copied and let go on a small stack.
 
-use crate::texts::nested;
-use miniserde::error::{Error, Result};
+use crate::texts::{is_invalid, is_kept, nested};
+use miniserde::error::Result;
 use miniserde::json::drop::safely;
 use miniserde::json::{Array, Object, Value, from_str, to_string};
 use std::alloc::Global;
-use test_tables::{Wrong, expect, expect_ok};
+use test_tables::{Wrong, expect_ok};
 
 /// Returns whether the value of so many pieces `open` and as many `close` is written as its text.
 fn is_kept_at(alloc: Global, depth: u32, open: &str, close: &str) -> Result<bool> {
-    let text = nested(alloc, depth, open, close, close)?;
-    let value: Value = from_str(alloc, text.as_str())?;
-    Ok(to_string(alloc, &value)?.as_str() == text.as_str())
+    is_kept(alloc, nested(alloc, depth, open, close, close)?.as_str())
 }
 
 /// Returns whether a text of that depth with a wrong last end is invalid.
 fn is_invalid_at(alloc: Global, depth: u32, open: &str, close: &str, last: &str) -> Result<bool> {
-    let text = nested(alloc, depth, open, close, last)?;
-    let value: Result<Value> = from_str(alloc, text.as_str());
-    Ok(matches!(value, Err(Error::Invalid)))
+    Ok(is_invalid(alloc, nested(alloc, depth, open, close, last)?.as_str()))
 }
 
 #[test]
@@ -70,29 +66,35 @@ fn deep_object(alloc: Global, depth: u32) -> Result<Value> {
     Ok(value)
 }
 
-#[test]
-fn deep_values_are_let_go(rt: HostRuntime) -> std::result::Result<(), Wrong> {
-    let alloc = rt.alloc();
+/// Returns true once values a million levels deep were let go in each way.
+fn are_let_go(alloc: Global) -> Result<bool> {
     drop(deep_array(alloc, 1_000_000)?);
     drop(deep_object(alloc, 1_000_000)?);
     safely(deep_array(alloc, 1_000_000)?);
     safely(deep_object(alloc, 1_000_000)?);
-    Ok(())
+    Ok(true)
+}
+
+#[test]
+fn deep_values_are_let_go(rt: HostRuntime) -> std::result::Result<(), Wrong> {
+    expect_ok(are_let_go(rt.alloc()), "a million levels")
+}
+
+/// Returns whether a value a million levels deep and its copy are written as its text.
+fn is_copied(alloc: Global) -> Result<bool> {
+    let text = nested(alloc, 1_000_000, "[", "]", "]")?;
+    let value: Value = from_str(alloc, text.as_str())?;
+    let copy = value.try_clone(alloc)?;
+    let is_alike = to_string(alloc, &value)?.as_str() == text.as_str()
+        && to_string(alloc, &copy)?.as_str() == text.as_str();
+    drop(value);
+    safely(copy);
+    Ok(is_alike)
 }
 
 #[test]
 fn a_deep_copy(rt: HostRuntime) -> std::result::Result<(), Wrong> {
-    let alloc = rt.alloc();
-    let text = nested(alloc, 1_000_000, "[", "]", "]")?;
-    let value: Value = from_str(alloc, text.as_str())?;
-    let copy = value.try_clone(alloc)?;
-    let written = to_string(alloc, &value)?;
-    expect(written.as_str() == text.as_str(), "a million levels")?;
-    let written = to_string(alloc, &copy)?;
-    expect(written.as_str() == text.as_str(), "their copy")?;
-    drop(value);
-    safely(copy);
-    Ok(())
+    expect_ok(is_copied(rt.alloc()), "a million levels")
 }
 
 #[test]
@@ -104,13 +106,15 @@ fn a_million_open_arrays(rt: HostRuntime) -> std::result::Result<(), Wrong> {
     )
 }
 
-#[test]
-fn a_deep_value_is_shown(rt: HostRuntime) -> std::result::Result<(), Wrong> {
-    let alloc = rt.alloc();
-    let text = nested(alloc, 1_000_000, "[", "]", "]")?;
-    let value: Value = from_str(alloc, text.as_str())?;
+/// Returns whether a value a million levels deep is shown, by the length of what is shown.
+fn is_shown(alloc: Global) -> Result<bool> {
+    let value: Value = from_str(alloc, nested(alloc, 1_000_000, "[", "]", "]")?.as_str())?;
     let shown = format!(in alloc; "{value:?}")?;
     safely(value);
-    expect(shown.len() == 8_000_000, "its length")?;
-    expect(shown.as_str().starts_with("Array [Array ["), "its front")
+    Ok(shown.len() == 8_000_000 && shown.as_str().starts_with("Array [Array ["))
+}
+
+#[test]
+fn a_deep_value_is_shown(rt: HostRuntime) -> std::result::Result<(), Wrong> {
+    expect_ok(is_shown(rt.alloc()), "a million levels")
 }

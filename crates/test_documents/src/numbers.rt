@@ -1,44 +1,75 @@
-//! Numbers: kept, shown, read, refused and written.
+//! Numbers: shown, read, refused and written.
 
 use miniserde::error::Result;
 use miniserde::json::{Number, from_str, to_string};
 use std::alloc::Global;
 use test_tables::{Wrong, expect_ok, expect_read_again};
 
-/// A line is a number, how it is kept, and what it is shown and written as.
-const KEPT: &str = "-9223372036854775809 => text -9223372036854775809
--9223372036854775808 => signed -9223372036854775808
--1 => signed -1
--0 => signed 0
-0 => unsigned 0
-1 => unsigned 1
-18446744073709551615 => unsigned 18446744073709551615
-18446744073709551616 => text 18446744073709551616
-1.0 => text 1.0
-1.50 => text 1.50
-1e2 => text 1e2";
+/// Returns whether a number is shown, and written, as expected.
+fn is_shown(alloc: Global, number: &Number, expected: &str) -> Result<bool> {
+    Ok(
+        format!(in alloc; "{number}")?.as_str() == expected
+            && to_string(alloc, number)?.as_str() == expected,
+    )
+}
 
-/// Returns whether a number is kept, shown and written as its line says.
-fn is_kept(alloc: Global, line: &str) -> Result<bool> {
-    let (text, expected) = line.split_once(" => ").unwrap_or((line, ""));
+/// Returns whether a number that is kept as its text is shown as it.
+fn is_text_shown(alloc: Global, text: &str) -> Result<bool> {
     let number: Number = from_str(alloc, text)?;
-    let kind = match number {
-        Number::Text(_) => "text",
-        Number::I64(_) => "signed",
-        Number::U64(_) => "unsigned",
-    };
-    let shown = format!(in alloc; "{kind} {number}")?;
-    let written = to_string(alloc, &number)?;
-    let written = format!(in alloc; "{kind} {written}")?;
-    Ok(shown.as_str() == expected && written.as_str() == expected)
+    is_shown(alloc, &number, text)
+}
+
+#[test]
+fn a_number_is_shown_as_it_is_written(rt: HostRuntime) -> std::result::Result<(), Wrong> {
+    let alloc = rt.alloc();
+    expect_ok(is_shown(alloc, &Number::I64(0), "0"), "a signed zero")?;
+    expect_ok(is_shown(alloc, &Number::I64(-1), "-1"), "a negative number")?;
+    expect_ok(is_shown(alloc, &Number::U64(0), "0"), "an unsigned zero")?;
+    expect_ok(is_text_shown(alloc, "1.50"), "a text")
+}
+
+/// Returns whether a number is kept as its text.
+fn is_kept_as_text(alloc: Global, text: &str) -> Result<bool> {
+    match from_str(alloc, text)? {
+        Number::Text(kept) => Ok(kept.as_str() == text),
+        _ => Ok(false),
+    }
+}
+
+/// Returns whether a number is kept as a signed one.
+fn is_kept_as_signed(alloc: Global, text: &str, expected: i64) -> Result<bool> {
+    match from_str(alloc, text)? {
+        Number::I64(kept) => Ok(kept == expected),
+        _ => Ok(false),
+    }
+}
+
+/// Returns whether a number is kept as an unsigned one.
+fn is_kept_as_unsigned(alloc: Global, text: &str, expected: u64) -> Result<bool> {
+    match from_str(alloc, text)? {
+        Number::U64(kept) => Ok(kept == expected),
+        _ => Ok(false),
+    }
 }
 
 #[test]
 fn a_number_is_kept_by_its_size(rt: HostRuntime) -> std::result::Result<(), Wrong> {
-    for line in KEPT.lines() {
-        expect_ok(is_kept(rt.alloc(), line), line)?;
-    }
-    Ok(())
+    let alloc = rt.alloc();
+    expect_ok(is_kept_as_text(alloc, "-9223372036854775809"), "one below")?;
+    expect_ok(
+        is_kept_as_signed(alloc, "-9223372036854775808", i64::MIN),
+        "the least",
+    )?;
+    expect_ok(is_kept_as_signed(alloc, "-1", -1), "minus one")?;
+    expect_ok(is_kept_as_signed(alloc, "-0", 0), "minus zero")?;
+    expect_ok(is_kept_as_unsigned(alloc, "1", 1), "one")?;
+    expect_ok(
+        is_kept_as_unsigned(alloc, "18446744073709551615", u64::MAX),
+        "the greatest",
+    )?;
+    expect_ok(is_kept_as_text(alloc, "18446744073709551616"), "one above")?;
+    expect_ok(is_kept_as_text(alloc, "1.0"), "a point")?;
+    expect_ok(is_kept_as_text(alloc, "1e2"), "an exponent")
 }
 
 const NUMBERS: &str = r#"0 => same

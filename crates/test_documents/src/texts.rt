@@ -1,10 +1,8 @@
-//! What the tests share: texts of a given depth, and what a value is written as.
+//! Texts of a given depth.
 
-use miniserde::Serialize;
-use miniserde::error::Result;
-use miniserde::json::to_string;
+use miniserde::error::{Error, Result};
+use miniserde::json::{Value, from_str, to_string};
 use std::alloc::Global;
-use test_tables::{Wrong, expect};
 
 /// Returns the piece `open` so many times, `close` once less, and then `last`.
 pub fn nested(alloc: Global, depth: u32, open: &str, close: &str, last: &str) -> Result<String> {
@@ -19,11 +17,14 @@ pub fn nested(alloc: Global, depth: u32, open: &str, close: &str, last: &str) ->
     Ok(text)
 }
 
-/// Fails unless a value is written as expected.
-pub fn expect_written<T: Serialize>(
-    alloc: Global,
-    value: &T,
-    expected: &'static str,
-) -> std::result::Result<(), Wrong> {
-    expect(to_string(alloc, value)?.as_str() == expected, expected)
+/// Returns whether a text is the one that its value is written as.
+pub fn is_kept(alloc: Global, text: &str) -> Result<bool> {
+    let value: Value = from_str(alloc, text)?;
+    Ok(to_string(alloc, &value)?.as_str() == text)
+}
+
+/// Returns whether a text is invalid.
+pub fn is_invalid(alloc: Global, text: &str) -> bool {
+    let value: Result<Value> = from_str(alloc, text);
+    matches!(value, Err(Error::Invalid))
 }

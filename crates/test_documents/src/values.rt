@@ -1,11 +1,12 @@
-//! Values: read, refused, written, copied, shown and released.
+//! Values: read, refused, written, copied, shown and let go.
 
-use crate::texts::expect_written;
+use miniserde::error::Result;
 use miniserde::json::drop::{Looks, counted};
-use miniserde::json::{Array, Number, Object, Value, from_str};
+use miniserde::json::{Array, Number, Object, Value, from_str, to_string};
+use std::alloc::Global;
 use std::collections::BTreeMap;
 use std::mem;
-use test_tables::{Wrong, expect, expect_prefixes_invalid, expect_read_again};
+use test_tables::{Wrong, expect, expect_ok, expect_prefixes_invalid, expect_read_again};
 
 const VALUES: &str = r#"null => same
 true => same
@@ -39,21 +40,34 @@ true => same
 1 2"#;
 
 #[test]
-fn a_value_is_read_again(rt: HostRuntime) -> Result<(), Wrong> {
-    let alloc = rt.alloc();
-    expect_read_again::<Value>(alloc, VALUES)?;
+fn a_value_is_read_again(rt: HostRuntime) -> std::result::Result<(), Wrong> {
+    expect_read_again::<Value>(rt.alloc(), VALUES)
+}
+
+#[test]
+fn a_beginning_is_no_document(rt: HostRuntime) -> std::result::Result<(), Wrong> {
     expect_prefixes_invalid::<Value>(
-        alloc,
+        rt.alloc(),
         r#"{"b": -0, "a": [1.50, 18446744073709551616, 1e400]}"#,
     )?;
     expect_prefixes_invalid::<Value>(
-        alloc,
+        rt.alloc(),
         r#"{"b": [-1, 1.50e+3 ,{}], "\ud83d\ude00": [true,null,"\n"]}"#,
     )
 }
 
+/// Returns whether the value by default is `null`.
+fn is_default_null(alloc: Global) -> Result<bool> {
+    Ok(to_string(alloc, &Value::default())?.as_str() == "null")
+}
+
 #[test]
-fn a_document_is_read_again_in_a_list_or_map(rt: HostRuntime) -> Result<(), Wrong> {
+fn a_value_is_null_by_default(rt: HostRuntime) -> std::result::Result<(), Wrong> {
+    expect_ok(is_default_null(rt.alloc()), "the value by default")
+}
+
+#[test]
+fn a_document_is_read_again_in_a_list_or_map(rt: HostRuntime) -> std::result::Result<(), Wrong> {
     let alloc = rt.alloc();
     expect_read_again::<Array>(
         alloc,
@@ -76,16 +90,19 @@ true
 "a"
 {"a":[1.50,18446744073709551616,1e400],"b":0}"#;
 
+/// Returns whether the copy of a text's value and the value itself are written as the text.
+fn is_copied(alloc: Global, text: &str) -> Result<bool> {
+    let value: Value = from_str(alloc, text)?;
+    let copy = value.try_clone(alloc)?;
+    Ok(to_string(alloc, &copy)?.as_str() == text && to_string(alloc, &value)?.as_str() == text)
+}
+
 #[test]
-fn a_copy_is_written_as_its_value(rt: HostRuntime) -> Result<(), Wrong> {
-    let alloc = rt.alloc();
+fn a_copy_is_written_as_its_value(rt: HostRuntime) -> std::result::Result<(), Wrong> {
     for text in COPIED.lines() {
-        let value: Value = from_str(alloc, text)?;
-        let copy = value.try_clone(alloc)?;
-        expect_written(alloc, &copy, text)?;
-        expect_written(alloc, &value, text)?;
+        expect_ok(is_copied(rt.alloc(), text), text)?;
     }
-    expect_written(alloc, &Value::default(), "null")
+    Ok(())
 }
 
 const EACH_KIND: &str =
@@ -106,19 +123,39 @@ const SHOWN_ON_LINES: &str = r#"Object {
     "String": String("..."),
 }"#;
 
-#[test]
-fn a_value_is_shown_by_its_kind(rt: HostRuntime) -> Result<(), Wrong> {
-    let alloc = rt.alloc();
+/// Returns whether a value of each kind is shown as it should be.
+fn is_shown(alloc: Global) -> Result<bool> {
     let value: Value = from_str(alloc, EACH_KIND)?;
-    let shown = format!(in alloc; "{value:?}")?;
-    expect(shown.as_str() == SHOWN, "on one line")?;
-    let shown = format!(in alloc; "{value:#?}")?;
-    expect(shown.as_str() == SHOWN_ON_LINES, "on lines")?;
+    Ok(format!(in alloc; "{value:?}")?.as_str() == SHOWN)
+}
+
+/// Returns whether a value of each kind is shown on lines as it should be, also in a list of std's.
+fn is_shown_on_lines(alloc: Global) -> Result<bool> {
+    let value: Value = from_str(alloc, EACH_KIND)?;
     let list: Vec<Value> = from_str(alloc, "[[1],{}]")?;
-    let shown = format!(in alloc; "{list:#?}")?;
-    let expected = "[\n    Array [\n        Number(1),\n    ],\n    Object {},\n]";
-    expect(shown.as_str() == expected, "in a list of std's")?;
+    Ok(
+        format!(in alloc; "{value:#?}")?.as_str() == SHOWN_ON_LINES
+            && format!(in alloc; "{list:#?}")?.as_str()
+                == "[\n    Array [\n        Number(1),\n    ],\n    Object {},\n]",
+    )
+}
+
+#[test]
+fn a_value_is_shown_by_its_kind(rt: HostRuntime) -> std::result::Result<(), Wrong> {
+    expect_ok(is_shown(rt.alloc()), "on one line")?;
+    expect_ok(is_shown_on_lines(rt.alloc()), "on lines")
+}
+
+/// Returns whether a value is let go with its looks counted.
+fn is_let_go(alloc: Global) -> Result<bool> {
+    let value: Value = from_str(alloc, r#"[1,{"a":[]},"x"]"#)?;
     let mut looks = Looks::new();
     counted(value, &mut looks);
-    expect(mem::size_of_val(&looks) == 0, "counts take no bytes")
+    Ok(mem::size_of_val(&looks) == 0)
+}
+
+#[test]
+fn a_value_is_let_go(rt: HostRuntime) -> std::result::Result<(), Wrong> {
+    expect_ok(is_let_go(rt.alloc()), "a value")?;
+    expect(mem::size_of::<Looks>() == 0, "counts take no bytes")
 }
