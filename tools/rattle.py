@@ -99,6 +99,11 @@ class Crate:
         return path
 
 
+def memory_left():
+    """Returns the bytes of memory that new processes may take."""
+    return int(re.search(r"MemAvailable: *(\d+)", pathlib.Path("/proc/meminfo").read_text())[1]) * 1024
+
+
 def crates():
     """Returns the crates of crates.txt by name."""
     lines = re.findall(r"^(\w+)[^:#\n]*:([^#\n]*)", (ROOT / "crates.txt").read_text(), re.M)
