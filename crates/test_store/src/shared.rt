@@ -50,7 +50,7 @@ fn are_served(rt: &HostRuntime) -> Result<bool, Fail> {
     Ok(unfinished.is_empty() & are_read(&peers))
 }
 
-// Returns whether the readers have their responses after a round in one commit, and the connection of the database.
+// Returns whether the readers have their responses after a round in one commit.
 fn are_settled(
     rt: &HostRuntime,
     service: &mut RoundService<MemStore, String>,
