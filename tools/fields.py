@@ -1,7 +1,7 @@
 """The impl that `./derive` writes for a struct whose fields are looked for one by one, and what it refuses of such a struct."""
 import re
 
-from refusals import NAME, Refused
+from refusals import NAME
 
 
 def looked_into(found):
@@ -20,20 +20,20 @@ def check_refused(found):
     for it in found:
         for part in [each for each in it.parts if each.refused]:
             if "refused" not in it.words:
-                raise Refused(f"line {part.line}: the fields of `{it.shown}` are not looked for: leave out `refused`, or mark `{it.shown}` with it")
-            if not re.fullmatch(rf"{NAME}(?:::{NAME})*", inner_struct(part)[0]):
-                raise Refused(f"line {part.line}: `refused` marks a field that is a struct or an `Option` of one: {part.of}")
+                yield f"line {part.line}: the fields of `{it.shown}` are not looked for: leave out `refused`, or mark `{it.shown}` with it"
+            elif not re.fullmatch(rf"{NAME}(?:::{NAME})*", inner_struct(part)[0]):
+                yield f"line {part.line}: `refused` marks a field that is a struct or an `Option` of one: {part.of}"
         if "refused" not in it.words:
             continue
         if it.kind != "struct":
-            raise Refused(f"line {it.line}: `{it.shown}` is no struct, and has no fields to look for: leave out `refused`")
+            yield f"line {it.line}: `{it.shown}` is no struct, and has no fields to look for: leave out `refused`"
         if it.params:
-            raise Refused(f"line {it.line}: a struct with parameters is not looked into: leave out `refused`, or write `{it.name}` for the types that it is used with")
+            yield f"line {it.line}: a struct with parameters is not looked into: leave out `refused`, or write `{it.name}` for the types that it is used with"
         if "closed" in it.words:
-            raise Refused(f"line {it.line}: a `closed` struct may be refused for a member that is no field: leave out `refused` or `closed`")
+            yield f"line {it.line}: a `closed` struct may be refused for a member that is no field: leave out `refused` or `closed`"
         for part in it.parts:
             if part.aliases:
-                raise Refused(f"line {part.line}: a field with an alias is not looked for: leave out `refused` or the alias")
+                yield f"line {part.line}: a field with an alias is not looked for: leave out `refused` or the alias"
 
 
 def probes_of(it, own, mark_of):

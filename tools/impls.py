@@ -197,6 +197,8 @@ def given_text(it, path):
             tree, made = f"str {const}.now", f"String::from_str(alloc, {const})?"
         elif part.default in ("true", "false"):
             tree = f"truth {part.default}"
+        elif part.default[0].isalpha():
+            tree, made = f'str (codes "{part.default_written}")', f"{part.of}::{part.default}"
         else:
             made = int(part.default)
             tree = f"nonneg {made}" if made >= 0 else f"neg (negsuc {-made - 1})"

@@ -1,7 +1,7 @@
 """Fields that are not written if they are `None`: what `./derive` refuses, and which types must not be written as `null`."""
 import re
 
-from refusals import NAME, Refused, applied, inside_newtypes
+from refusals import NAME, applied, inside_newtypes
 
 
 def inner_of(part):
@@ -25,12 +25,12 @@ def check_omitted(found, uses):
             if not part.omit:
                 continue
             if not re.fullmatch(r"Option<.+>", part.of):
-                raise Refused(f"line {part.line}: `omit` leaves out `None`: mark an `Option`: {part.of}")
-            if part.default is not None:
-                raise Refused(f"line {part.line}: a field that is left out is read as `None`: leave out `default`: {part.of}")
+                yield f"line {part.line}: `omit` leaves out `None`: mark an `Option`: {part.of}"
+            elif part.default is not None:
+                yield f"line {part.line}: a field that is left out is read as `None`: leave out `default`: {part.of}"
             inner = unboxed(inside_newtypes(unboxed(inner_of(part)), types)).removeprefix("miniserde::json::")
             if inner == "()" or re.match(r"\w*", inner).group() in {"Option", *({"Document", "Unique", "Value"} - own)}:
-                raise Refused(f"line {part.line}: `omit` marks an `Option` of what is never `null`, else `Some` of that is read as `None`: leave it out: {part.of}")
+                yield f"line {part.line}: `omit` marks an `Option` of what is never `null`, else `Some` of that is read as `None`: leave it out: {part.of}"
 
 
 def asked_of(part, types):

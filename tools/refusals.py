@@ -1,11 +1,12 @@
-"""What `./derive` refuses: types and names that no impl can be written for. Each message has the reason, and what to write."""
+"""What `./derive` refuses: types and names that no impl can be written for. Each message has the reason, and what to write.
+
+Checks of a line raise `Refused`; those of whole types yield all faults that they find.
+"""
 import re
 
+from faults import Refused
+
 NAME = r"[A-Za-z_][A-Za-z0-9_]*"
-
-
-class Refused(Exception):
-    """A definition that can't be taken."""
 
 
 # What derived code may name.
@@ -53,18 +54,6 @@ UNREAD = {
     "Result": "a struct of two `Option`s",
     "NonZeroU8 NonZeroU16 NonZeroU32 NonZeroU64 NonZeroUsize NonZeroI8 NonZeroI16 NonZeroI32 NonZeroI64 NonZeroIsize": "a newtype of an integer with `check`",
     "IpAddr Ipv4Addr Ipv6Addr SocketAddr": "a newtype of it with `text`",
-}
-# What stands for attributes of serde.
-SERDE = {
-    "rename": ("rename {}", "the field or the variant"),
-    "rename_all": ("rename_all {}", "the first line of the type"),
-    "alias": ("alias {}", "the field"),
-    "default": ("default", "the field"),
-    "skip_serializing_if": ("omit", "the field"),
-    "deny_unknown_fields": ("closed", "the first line of the type"),
-    "tag": ("tag {}", "the first line of the type"),
-    "try_from": ("check FUNCTION", "a newtype"),
-    "into": ("check FUNCTION", "a newtype"),
 }
 INSTEAD = {name: instead for names, instead in UNREAD.items() for name in names.split()}
 
@@ -130,16 +119,16 @@ def check_params(it, known):
     taken = {*known, *INSTEAD, *" ".join([NAMED, OF_RUST, *IMPORTED.values()]).split()}
     for at, name in enumerate(it.params):
         if name in taken:
-            raise Refused(f"line {it.line}: `{name}` is the name of a type: call the parameter otherwise, as `T`")
-        if name in it.params[:at]:
-            raise Refused(f"line {it.line}: `{it.name}` has two parameters `{name}`: call one otherwise")
-        if not any(re.search(rf"(?<![\w:]){name}\b", part.of) for part in it.parts):
-            raise Refused(f"line {it.line}: no {part_word(it)} of `{it.name}` has a type with `{name}`: leave the parameter out")
+            yield f"line {it.line}: `{name}` is the name of a type: call the parameter otherwise, as `T`"
+        elif name in it.params[:at]:
+            yield f"line {it.line}: `{it.name}` has two parameters `{name}`: call one otherwise"
+        elif not any(re.search(rf"(?<![\w:]){name}\b", part.of) for part in it.parts):
+            yield f"line {it.line}: no {part_word(it)} of `{it.name}` has a type with `{name}`: leave the parameter out"
         for part in it.parts:
             if re.search(rf"\b(?:BTreeMap|HashMap)<\s*{name}\b", part.of):
-                raise Refused(f"line {part.line}: a map's key is no parameter, since not every type can be a key: write the key's type, as `String`: {part.of}")
+                yield f"line {part.line}: a map's key is no parameter, since not every type can be a key: write the key's type, as `String`: {part.of}"
             if re.search(rf"\[[^;\]]*(?<![\w:]){name}\b", part.of):
-                raise Refused(f"line {part.line}: an array has no parameter in it, since its size must be known: write a `Vec`: {part.of}")
+                yield f"line {part.line}: an array has no parameter in it, since its size must be known: write a `Vec`: {part.of}"
 
 
 def check_field_name(name, written, line):
@@ -153,13 +142,13 @@ def check_written(it):
     seen = {}
     for part in it.parts:
         if part.written in seen:
-            raise Refused(f'line {part.line}: `{part.name}` is "{part.written}" in JSON, and so is `{seen[part.written].name}` on line {seen[part.written].line}')
-        seen[part.written] = part
+            yield f'line {part.line}: `{part.name}` is "{part.written}" in JSON, and so is `{seen[part.written].name}` on line {seen[part.written].line}'
+        seen.setdefault(part.written, part)
     for part in it.parts:
         for name in part.aliases:
             if name in seen:
-                raise Refused(f'line {part.line}: "{name}" is a name of `{seen[name].name}` on line {seen[name].line}: leave the alias out')
-            seen[name] = part
+                yield f'line {part.line}: "{name}" is a name of `{seen[name].name}` on line {seen[name].line}: leave the alias out'
+            seen.setdefault(name, part)
 
 
 def check_type_names(found, printed_for):
@@ -168,27 +157,27 @@ def check_type_names(found, printed_for):
     refused = " ".join(OF_REFUSED.values()) if any("refused" in it.words for it in found) else ""
     for it in found:
         if it.name in [*NAMED.split(), *OF_RUST.split(), *refused.split()]:
-            raise Refused(f"line {it.line}: derived code uses the name `{it.name}`: call the type otherwise, its JSON stays")
-        if it.name in lines and not it.variant:
-            raise Refused(f"line {it.line}: line {lines[it.name]} has a type `{it.name}` too")
+            yield f"line {it.line}: derived code uses the name `{it.name}`: call the type otherwise, its JSON stays"
+        elif it.name in lines and not it.variant:
+            yield f"line {it.line}: line {lines[it.name]} has a type `{it.name}` too"
         lines.update({} if it.variant else {it.name: it.line})
     for it in found:
         if it.variant:
-            check_printed(it, it.name, lines)
+            yield from check_printed(it, it.name, lines)
             lines[it.name] = it.line
     for it in found:
         for name in printed_for(it):
-            check_printed(it, name, lines)
+            yield from check_printed(it, name, lines)
 
 
 def check_printed(it, name, lines):
     """Refuses a type or a parameter that has the name of a type that is written for another."""
     if name in lines or name in it.params:
-        raise Refused(f"line {lines.get(name, it.line)}: derived code has a type `{name}` for `{it.shown}`: call this one otherwise")
+        yield f"line {lines.get(name, it.line)}: derived code has a type `{name}` for `{it.shown}`: call this one otherwise"
 
 
 def check_cycles(found):
-    """Refuses a type that contains itself, by whatever way."""
+    """Refuses a type that contains itself, by whatever way. Of the types that contain one another the first is told."""
     inner = {it.name: [(part, name) for part in it.parts for name in re.findall(NAME, part.of)] for it in found}
 
     def reaches(name, aim, seen):
@@ -198,10 +187,12 @@ def check_cycles(found):
             return False
         return any(reaches(of, aim, seen | {name}) for _, of in inner[name])
 
+    told = frozenset()
     for it in found:
         for part, name in inner[it.name]:
-            if reaches(name, it.name, frozenset()):
-                raise Refused(f"line {part.line}: `{it.shown}` contains itself by `{part.name}`: keep the inner part as a `miniserde::json::Value`")
+            if it.name not in told and reaches(name, it.name, told):
+                told |= {it.name}
+                yield f"line {part.line}: `{it.shown}` contains itself by `{part.name}`: keep the inner part as a `miniserde::json::Value`"
 
 
 def part_word(it):
@@ -215,39 +206,6 @@ def check_values(part, bare, inside):
         raise Refused(f"line {part.line}: a variant has no empty brackets: write `{part.name}`: {bare}")
     if len(part.values) > 6:
         raise Refused(f"line {part.line}: a variant has six values at most: name its fields, as `{part.name} {{ a: A, b: B, c: C }}`: {bare}")
-
-
-def check_attribute(line, number):
-    """Refuses an attribute of serde, which no impl here knows, and one that does not stand on a line of its own."""
-    found = re.match(r"#\[serde\((.*)\)\s*\]", line)
-    if found:
-        raise Refused(f"line {number}: no impl here knows attributes of serde{instead_of(split_at_commas(found.group(1)))}: {line}")
-    bare, depth = re.sub(r'"(?:[^"\\]|\\.)*"', "", line), 0
-    for at, sign in enumerate(bare):
-        depth += (sign == "[") - (sign == "]")
-        if sign == "]" and depth == 0 and not bare[at + 1 :].strip():
-            return
-        if sign == "]" and depth == 0:
-            break
-    raise Refused(f"line {number}: an attribute stands on a line of its own: {line}")
-
-
-def instead_of(parts):
-    """Returns what stands for the parts of an attribute of serde, each with its own value."""
-    parts = [part for part in parts if part != "transparent"]
-    if not parts:
-        return ": a newtype is read and written as its value, so leave out `transparent`"
-    names = [re.match(r"\w*", part).group() for part in parts]
-    none = [name for name in names if name not in SERDE]
-    if none:
-        return f" (docs/YOUR-OWN-TYPES.md), and nothing stands for `{none[0]}`"
-    words, is_closed_enum = [], "tag" in names and "deny_unknown_fields" in names
-    for name, part in zip(names, parts):
-        value = part.partition("=")[2].strip()
-        if not (is_closed_enum and name == "deny_unknown_fields"):
-            words.append("default VALUE" if name == "default" and value else SERDE[name][0].format(value))
-    closed = ", and `// closed` behind each struct of a variant, since an enum has no members" if is_closed_enum else ""
-    return f": write `// {', '.join(dict.fromkeys(words))}` behind {SERDE[names[0]][1]}{closed}"
 
 
 def check_newtype(it, integer, bare):
@@ -274,40 +232,39 @@ def check_tagged(it):
     """Refuses a variant with data whose name is not one of a type."""
     for part in it.parts if it.kind == "tagged" else []:
         if not re.fullmatch(r"[A-Z][A-Za-z0-9]*", part.name):
-            raise Refused(f'line {part.line}: the name of a variant begins with a capital letter and has no `_`: write `Name, // rename "{part.written}"`')
+            yield f'line {part.line}: the name of a variant begins with a capital letter and has no `_`: write `Name, // rename "{part.written}"`'
 
 
 def check_inside(it, part, found, known):
     """Refuses a variant whose data cannot stand in one object with the tag: no struct, or one with a field of the tag's name."""
-    fields = f"`{part.name} {{ name: Type }}`"
+    fields, name = f"`{part.name} {{ name: Type }}`", part.of.split("<")[0]
     if len(part.values) >= 2 or part.of and not re.fullmatch(rf"{NAME}(?:<.*>)?", part.of):
-        raise Refused(f"line {part.line}: beside a tag stand the members of a struct: write {fields}, or a struct with this field: {part.of}")
-    name = part.of.split("<")[0]
-    if name in it.params:
-        raise Refused(f'line {part.line}: beside a tag stand the members of a struct, and one that stands for `{name}` may have a field "{it.tag}": write the struct itself, or leave out `tag`')
-    if part.of and (name not in known or name in found and found[name].kind != "struct"):
-        raise Refused(f"line {part.line}: beside a tag stand the members of a struct, and `{name}` is none: write {fields}, or a struct with this field")
+        yield f"line {part.line}: beside a tag stand the members of a struct: write {fields}, or a struct with this field: {part.of}"
+    elif name in it.params:
+        yield f'line {part.line}: beside a tag stand the members of a struct, and one that stands for `{name}` may have a field "{it.tag}": write the struct itself, or leave out `tag`'
+    elif part.of and (name not in known or name in found and found[name].kind != "struct"):
+        yield f"line {part.line}: beside a tag stand the members of a struct, and `{name}` is none: write {fields}, or a struct with this field"
     for each in found[name].parts if name in found else []:
         if it.tag in (each.written, *each.aliases):
-            raise Refused(f'line {each.line}: the tag of `{it.name}` is "{it.tag}" in JSON, and so is the field `{each.name}`: call one otherwise')
+            yield f'line {each.line}: the tag of `{it.name}` is "{it.tag}" in JSON, and so is the field `{each.name}`: call one otherwise'
 
 
 def check_foreign_marks(it):
     """Refuses marks that the type or its place does not know."""
-    if not it.parts:
-        raise Refused(f"line {it.line}: `{it.name}` has no field or variant")
+    if not it.parts and not it.faulty:
+        yield f"line {it.line}: `{it.name}` has no field or variant"
     if it.kind == "tagged" and "events" in it.words:
-        raise Refused(f"line {it.line}: an enum with data has no place: leave out `events`")
+        yield f"line {it.line}: an enum with data has no place: leave out `events`"
     if it.kind == "tagged" and {"once", "closed"} & set(it.words):
-        raise Refused(f"line {it.line}: `{it.name}` is no struct: write a struct that is `closed` or `once`, and a variant of it, as `Text(Text)`")
+        yield f"line {it.line}: `{it.name}` is no struct: write a struct that is `closed` or `once`, and a variant of it, as `Text(Text)`"
     if it.kind == "enum" and {"once", "closed"} & set(it.words):
-        raise Refused(f"line {it.line}: `{it.name}` is no struct, and has no members that `once` or `closed` could speak of")
+        yield f"line {it.line}: `{it.name}` is no struct, and has no members that `once` or `closed` could speak of"
     if it.kind != "struct" and "inside" in it.words:
-        raise Refused(f"line {it.line}: `{it.name}` is no struct, and cannot stand beside a tag: leave out `inside`")
+        yield f"line {it.line}: `{it.name}` is no struct, and cannot stand beside a tag: leave out `inside`"
     if "events" in it.words and it.params:
-        raise Refused(f"line {it.line}: a place has no parameters: leave out `events`, or write `{it.name}` for the types that it is used with")
+        yield f"line {it.line}: a place has no parameters: leave out `events`, or write `{it.name}` for the types that it is used with"
     if "events" in it.words and ("closed" in it.words or any(part.once or part.omit or part.default is not None or part.aliases for part in it.parts)):
-        raise Refused(f"line {it.line}: `{it.name}` has marks that a place does not know: leave out `events`, `closed` or the fields' marks")
+        yield f"line {it.line}: `{it.name}` has marks that a place does not know: leave out `events`, `closed` or the fields' marks"
 
 
 def names_beside(module, found, uses):
@@ -322,31 +279,35 @@ def check_places(found, uses):
     for it in found:
         for part in it.parts if "events" in it.words else []:
             if widest_tuple(part.of) > 2:
-                raise Refused(f"line {part.line}: `{it.name}` has a place, and a tuple of three and more has none: leave out `events`, or write pairs: {part.of}")
+                yield f"line {part.line}: `{it.name}` has a place, and a tuple of three and more has none: leave out `events`, or write pairs: {part.of}"
             if "VecDeque" not in foreign and re.search(r"(?:(?<![\w:])|(?<=collections::))VecDeque\b", part.of):
-                raise Refused(f"line {part.line}: `{it.name}` has a place, and a `VecDeque` has none: leave out `events`, or write a `Vec`: {part.of}")
-            inner = without.keys() & set(re.findall(NAME, part.of))
-            if inner:
-                each = sorted(inner)[0]
-                if without[each].kind == "tagged":
-                    raise Refused(f"line {part.line}: `{it.name}` has a place, and its field `{part.name}` is an enum with data, which has none: leave out `events`")
-                if without[each].params:
-                    raise Refused(f"line {part.line}: `{it.name}` has a place, and its field `{part.name}` has parameters and so none: leave out `events`")
-                raise Refused(f"line {part.line}: `{it.name}` has a place, and its field `{part.name}` has none: mark `{each}` with `// events` too")
+                yield f"line {part.line}: `{it.name}` has a place, and a `VecDeque` has none: leave out `events`, or write a `Vec`: {part.of}"
+            inner = sorted(without.keys() & set(re.findall(NAME, part.of)))
+            if inner and without[inner[0]].kind == "tagged":
+                yield f"line {part.line}: `{it.name}` has a place, and its field `{part.name}` is an enum with data, which has none: leave out `events`"
+            elif inner and without[inner[0]].params:
+                yield f"line {part.line}: `{it.name}` has a place, and its field `{part.name}` has parameters and so none: leave out `events`"
+            elif inner:
+                yield f"line {part.line}: `{it.name}` has a place, and its field `{part.name}` has none: mark `{inner[0]}` with `// events` too"
 
 
-def with_word(found, uses, word, reason):
-    """Yields the fields of the types with a word, and refuses those that are documents or of types of the file without the word."""
+def with_word(found, word):
+    """The fields of the types with a word."""
+    return [part for it in found if word in it.words for part in it.parts]
+
+
+def check_word(found, uses, word, reason):
+    """Refuses fields of the types with a word that are documents, or of types of the file without the word: of a field the first such name."""
     plain = {it.name for it in found if word not in it.words}
     documents = {"Array", "Number", "Object", "Unique", "Value"} - names_beside("miniserde::json", found, uses)
     for it in found:
         for part in it.parts if word in it.words else []:
-            yield part
-            for name in re.findall(rf"(?:(?<![\w:])|(?<=json::)){NAME}", part.of):
-                if name in documents:
-                    raise Refused(f"line {part.line}: `{name}` is not {word}, since it {reason}: {part.of}")
-                if name in plain:
-                    raise Refused(f"line {part.line}: `{it.shown}` is {word}, and its {part_word(it)} `{part.name}` is not: mark `{name}` with `// {word}` too")
+            names = re.findall(rf"(?:(?<![\w:])|(?<=json::)){NAME}", part.of)
+            name = next((each for each in names if each in documents | plain), "")
+            if name in documents:
+                yield f"line {part.line}: `{name}` is not {word}, since it {reason}: {part.of}"
+            elif name:
+                yield f"line {part.line}: `{it.shown}` is {word}, and its {part_word(it)} `{part.name}` is not: mark `{name}` with `// {word}` too"
 
 
 def applied(of):
@@ -372,9 +333,10 @@ def check_lossless(found, uses):
     """Refuses a `lossless` type with a field that is not, as an `Option` of an `Option`."""
     types = {it.name: it for it in found}
     reason = "tells what its text does not, as `-0` from `0`: write `miniserde::json::Document`, or leave out `lossless`"
-    for part in with_word(found, uses, "lossless", reason):
+    yield from check_word(found, uses, "lossless", reason)
+    for part in with_word(found, "lossless"):
         if any(name == "Option" and inside_newtypes(given[0], types).startswith("Option<") for name, given in applied(part.of)):
-            raise Refused(f"line {part.line}: an `Option` of an `Option` is not lossless, since `Some(None)` is written `null`: leave out `lossless`: {part.of}")
+            yield f"line {part.line}: an `Option` of an `Option` is not lossless, since `Some(None)` is written `null`: leave out `lossless`: {part.of}"
 
 
 def check_stable(found, uses):
@@ -382,8 +344,9 @@ def check_stable(found, uses):
     types = {it.name: it for it in found}
     integer = "[ui](?:8|16|32|64|size)"
     numbers = [integer, *(it.name for it in found if it.kind == "newtype" and re.fullmatch(integer, inside_newtypes(it.name, types)))]
-    for part in with_word(found, uses, "stable", "tells `-0` from `0`: write `miniserde::json::Document`"):
+    yield from check_word(found, uses, "stable", "tells `-0` from `0`: write `miniserde::json::Document`")
+    for part in with_word(found, "stable"):
         if part.aliases:
-            raise Refused(f"line {part.line}: a struct with an alias is not stable, since sorting two names of a field changes which is the last: leave out `stable`")
+            yield f"line {part.line}: a struct with an alias is not stable, since sorting two names of a field changes which is the last: leave out `stable`"
         if re.search(rf"\b(?:BTreeMap|HashMap)<\s*(?:{'|'.join(numbers)})\b", part.of):
-            raise Refused(f"line {part.line}: a map with integer keys is not stable, since `1` and `01` are one key: write `String` keys: {part.of}")
+            yield f"line {part.line}: a map with integer keys is not stable, since `1` and `01` are one key: write `String` keys: {part.of}"

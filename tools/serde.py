@@ -1,0 +1,82 @@
+"""Attributes of serde: what they say in the words and marks of `./derive`, where they mean the same here."""
+import re
+
+from faults import Refused
+from refusals import split_at_commas
+
+SERDE = re.compile(r"#\[serde\((.*)\)\s*\]", re.S)
+USE = re.compile(r"(?:pub )?use serde(?:_derive)?\b")
+# What stands for attributes that are not read.
+INSTEAD = {
+    "content": "an enum is tagged by the name of its variant, or internally",
+    "flatten": "write the fields of the inner struct",
+    "rename_all_fields": "write `rename` above the fields",
+    "skip": "leave the field out",
+    "skip_deserializing": "make the field an `Option`",
+    "skip_serializing": "leave the field out",
+    "untagged": "an enum is tagged by the name of its variant, or internally",
+    "with": "write a newtype with the word `text`",
+}
+# Where each attribute that is read may stand.
+OF = {
+    "alias": ("field",),
+    "default": ("field",),
+    "deny_unknown_fields": ("struct",),
+    "into": ("newtype",),
+    "rename": ("field", "variant"),
+    "rename_all": ("struct", "enum"),
+    "skip_serializing_if": ("field",),
+    "tag": ("enum",),
+    "transparent": ("newtype",),
+    "try_from": ("newtype",),
+}
+
+
+def in_words(above, of, inner=""):
+    """The words and marks that the attributes above a type, a field or a variant stand for, and the other lines above it.
+
+    Of the lines each has its number in front. `of` is what they stand above, and `inner` the type in a newtype.
+    """
+    words, others = [], []
+    for number, line in above:
+        found = SERDE.fullmatch(line)
+        if not found:
+            others.append((number, line))
+        for part in split_at_commas(found[1]) if found else []:
+            words.append(word_for(part, of, inner, number))
+    words = [word for word in dict.fromkeys(words) if word]
+    # An `Option` that may be left out is `None` if it is missing.
+    return [word for word in words if word != "default" or "omit" not in words], others
+
+
+def word_for(part, of, inner, line):
+    """The word or mark for one part of an attribute, "" for one that says what holds anyway."""
+    name, value = re.match(r"\w*", part).group(), part.partition("=")[2].strip()
+    if name not in OF or (name == "default" and of not in ("field", "variant")):
+        instead = INSTEAD.get(name) if name not in OF else "write it above each field that may be missing"
+        raise Refused(f"line {line}: nothing stands for `{name}` of serde here{f': {instead}' if instead else ''}: {part}")
+    if of not in OF[name]:
+        what = {"struct": "a struct", "enum": "an enum", "newtype": "a newtype", "field": "a field", "variant": "a variant"}
+        instead = ": write it above each struct that is a variant's" if (name, of) == ("deny_unknown_fields", "enum") else ""
+        raise Refused(f"line {line}: `{name}` of serde is not read at {what[of]}{instead}: {part}")
+    if "(" in part:
+        raise Refused(f'line {line}: what is written is what is read: write `{name} = ".."`: {part}')
+    if name == "default" and value:
+        raise Refused(f"line {line}: no function gives a missing field its value: write `// default VALUE` behind the field, or make it an `Option`: {part}")
+    if name == "skip_serializing_if" and value != '"Option::is_none"':
+        raise Refused(f"line {line}: a field that is left out is an `Option` that is `None`: make it one, with `Option::is_none`: {part}")
+    if name in ("into", "try_from") and value.strip('"') != inner:
+        raise Refused(f"line {line}: a newtype with a check is read and written as what is in it: write `check FUNCTION` behind it, and {name} = \"{inner}\": {part}")
+    return {
+        "default": "default",
+        "deny_unknown_fields": "closed",
+        "into": "check",
+        "skip_serializing_if": "omit",
+        "transparent": "",
+        "try_from": "check",
+    }.get(name, f"{name} {value}")
+
+
+def with_words(line, words):
+    """The line of a type, a field or a variant with words and marks behind those that it has."""
+    return f"{line}{', ' if '//' in line else ' // '}{', '.join(words)}" if words else line
