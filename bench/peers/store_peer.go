@@ -1,4 +1,4 @@
-// A plain store of goods, to measure beside the server of templates/store: net/http, and SQLite's C library by
+// A plain store of goods, to measure beside the server of tools/templates/store: net/http, and SQLite's C library by
 // mattn/go-sqlite3. Prepared statements, WAL, and each put is synced. Puts go through one connection, reads through others.
 //
 //	store_peer FILE PORT

@@ -1,5 +1,5 @@
 #!/usr/bin/env python3
-"""A plain store of goods, to measure beside the server of templates/store: http.server with threads, and sqlite3.
+"""A plain store of goods, to measure beside the server of tools/templates/store: http.server with threads, and sqlite3.
 
     store_peer.py FILE PORT
 

@@ -6,7 +6,7 @@ mod goods;
 use goods::Goods;
 use http_server::Config;
 use rows::{files, texts};
-use sqlite::Unknown;
+use sqlite::{Alter, Connection, Unknown};
 use std::hash::RandomState;
 use std::process::ExitCode;
 use std::{env, io};
@@ -15,22 +15,15 @@ use store::opening::prepare;
 use store::service::StoreService;
 use store::stream::serve_stream;
 
-/// Serves the file of the first word of the command line. Returns the status to exit with.
-fn run(rt: &HostRuntime) -> io::Result<u8> {
-    let Some(path) = env::args(rt)?.nth(1) else {
-        eprintln!(rt; "usage: store_app FILE")?;
-        return Ok(2);
-    };
-    let Ok(mut conn) = files::open(rt, path.as_str(), Unknown) else {
-        return Ok(1);
-    };
+/// Serves the requests of standard input by the entries of a store. Returns the status to exit with.
+fn serve<S: Alter>(rt: &HostRuntime, mut conn: Connection<S>) -> io::Result<u8> {
     if !texts::is_empty(&conn) && !texts::is_store(&conn) {
         return Ok(1);
     }
     if prepare(&mut conn).is_err() {
         return Ok(1);
     }
-    let mut service: StoreService<_, Goods, ByField> = StoreService::new(rt.alloc(), conn);
+    let mut service: StoreService<S, Goods, ByField> = StoreService::new(rt.alloc(), conn);
     let keys = RandomState::new(rt)?;
     let (mut reader, mut writer) = (rt.stdin(), io::writer(rt));
     serve_stream(
@@ -45,6 +38,18 @@ fn run(rt: &HostRuntime) -> io::Result<u8> {
         return Ok(1);
     }
     Ok(0)
+}
+
+/// Serves the file of the first word of the command line. Returns the status to exit with.
+fn run(rt: &HostRuntime) -> io::Result<u8> {
+    let Some(path) = env::args(rt)?.nth(1) else {
+        eprintln!(rt; "usage: store_app FILE")?;
+        return Ok(2);
+    };
+    match files::open(rt, path.as_str(), Unknown) {
+        Ok(conn) => serve(rt, conn),
+        Err(_) => Ok(1),
+    }
 }
 
 fn main(rt: HostRuntime) -> ExitCode {

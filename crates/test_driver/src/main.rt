@@ -1,5 +1,5 @@
 //! Runs one job of the library on a text of standard input, for scripts that make the texts and judge the answers:
-//! `tools/seeded_texts`, `oom/run` and `bench/run`.
+//! `tools/seeded_texts`, `tools/oom/run` and `bench/run`.
 //!
 //! The first argument names the job (`jobs.rt`), the second the mode:
 //! - `read` reads the text as the job's type and drops the value; `both` writes the text that the job makes.
@@ -67,7 +67,7 @@ fn words(rt: &(impl std::rt::Env + AllocGlobal)) -> io::Result<Vec<String>> {
 /// Reads all that the reader has left.
 fn read_all<R: Read>(alloc: Global, r: &mut R) -> Result<Vec<u8>, Fault> {
     let mut bytes = Vec::new(alloc);
-    let mut chunk = [0u8; 4096];
+    let mut chunk = [0u8; 65536];
     for _ in 0..u64::MAX {
         let Ok(n) = r.read(&mut chunk) else {
             return Err(Fault::Input);

@@ -3,7 +3,7 @@
 use rows::error::Error;
 use rows::{files, texts, values};
 use sqlite::{Alter, Connection, FileStore, Files, Options};
-use sqlite_disk::Memory;
+use sqlite_disk::{Disk, Memory};
 use std::alloc::Global;
 use std::test::Fail;
 
@@ -122,35 +122,52 @@ fn refuses<S: Alter>(alloc: Global, conn: &mut Connection<S>, key: &String) -> R
     Ok(invalid & (body.as_deref() == Some("[]")) & (values::value_of::<u64>(alloc, "7")? == 7))
 }
 
+const PAGES: &[(&str, u32, &str)] = &[
+    ("", 9, "\"nails\"\"rope \\\"thin\\\"\""),
+    ("\"nails\"", 1, "\"nails\""),
+    ("\"nails\"!", 9, "\"rope \\\"thin\\\"\""),
+    ("", 0, ""),
+    ("a", 9, ""),
+];
+
+// Returns whether rows are put, found, listed and removed.
+fn are_kept<S: Alter>(
+    alloc: Global,
+    conn: &mut Connection<S>,
+    nails: &String,
+    rope: &String,
+) -> Result<bool, Error> {
+    let made = create(conn)? & is(alloc, conn, nails, None)?;
+    let committed = commits(alloc, conn, nails, rope)? & rolls_back(alloc, conn, nails, rope)?;
+    let mut right = made & committed & is(alloc, conn, nails, Some(1))? & count(alloc, conn, 2)?;
+    for (from, limit, wanted) in PAGES {
+        right = right & page(alloc, conn, from, *limit, wanted)?;
+    }
+    let changed = put(alloc, conn, nails, 7)? & removes(conn, "\"rope \\\"thin\\\"\"")?;
+    Ok(right & changed & count(alloc, conn, 1)?)
+}
+
+// Returns whether rows are found when their files are opened again.
+fn are_found_again<D: Disk + Drop>(
+    alloc: Global,
+    conn: Connection<FileStore<D>>,
+    nails: &String,
+    rope: &String,
+) -> Result<bool, Fail> {
+    let (conn, read) = files::put_and_reopen(alloc, conn, Options::new(2), rope, &8u64)?;
+    let mut conn = files::reopen(alloc, conn, Options::new(3))?;
+    let found = texts::is_store(&conn) & is(alloc, &mut conn, nails, Some(7))?;
+    Ok(found & (read == Some(8)) & refuses(alloc, &mut conn, nails)?)
+}
+
 #[test]
 fn rows_are_kept(rt: HostRuntime) -> Result<(), Fail> {
     let alloc = rt.alloc();
     let nails = String::from_str(alloc, "nails")?;
     let rope = String::from_str(alloc, "rope \"thin\"")?;
     let mut conn = opened(alloc)?;
-    assert!(rt; create(&mut conn)?);
-    assert!(rt; is(alloc, &mut conn, &nails, None)?);
-    assert!(rt; commits(alloc, &mut conn, &nails, &rope)?);
-    assert!(rt; rolls_back(alloc, &mut conn, &nails, &rope)?);
-    assert!(rt; is(alloc, &mut conn, &nails, Some(1))?);
-    assert!(rt; count(alloc, &mut conn, 2)?);
-    for (from, limit, wanted) in [
-        ("", 9, "\"nails\"\"rope \\\"thin\\\"\""),
-        ("\"nails\"", 1, "\"nails\""),
-        ("\"nails\"!", 9, "\"rope \\\"thin\\\"\""),
-        ("", 0, ""),
-        ("a", 9, ""),
-    ] {
-        assert!(rt; page(alloc, &mut conn, from, limit, wanted)?);
-    }
-    assert!(rt; put(alloc, &mut conn, &nails, 7)?);
-    assert!(rt; removes(&mut conn, "\"rope \\\"thin\\\"\"")?);
-    assert!(rt; count(alloc, &mut conn, 1)?);
-    let (conn, read) = files::put_and_reopen(alloc, conn, Options::new(2), &rope, &8u64)?;
-    assert_eq!(rt; read, Some(8));
-    let mut conn = files::reopen(alloc, conn, Options::new(3))?;
-    assert!(rt; texts::is_store(&conn));
-    assert!(rt; is(alloc, &mut conn, &nails, Some(7))?);
-    assert!(rt; refuses(alloc, &mut conn, &nails)?);
+    let kept = are_kept(alloc, &mut conn, &nails, &rope);
+    assert!(rt; matches!(kept, Ok(true)));
+    assert!(rt; are_found_again(alloc, conn, &nails, &rope)?);
     Ok(())
 }

@@ -2,7 +2,7 @@
 
 use http_server::Config;
 use rows::texts;
-use sqlite::{Connection, MemStore};
+use sqlite::{Alter, Connection};
 use std::hash::RandomState;
 use std::test::Fail;
 use store::laws::last_put_is_shown;
@@ -208,17 +208,19 @@ const LISTS: &[(&str, &str, &str, &str)] = &[
     ("GET /%65ntries", "Accept: */*", "404 ", "\r\n\r\n"),
 ];
 
-// Opens a store in memory that has no entry.
-pub fn opened(rt: &HostRuntime) -> Result<StoreService<MemStore, String>, Fail> {
-    let mut conn = Connection::open_in_memory(rt.alloc())?;
+/// Makes the table of a database, and returns its store.
+pub fn store_of<S: Alter>(
+    rt: &HostRuntime,
+    mut conn: Connection<S>,
+) -> Result<StoreService<S, String>, Fail> {
     prepare(&mut conn)?;
     Ok(StoreService::new(rt.alloc(), conn))
 }
 
 // Serves a request of these line, field and body, and returns what was sent.
-fn sent(
+fn sent<S: Alter>(
     rt: &HostRuntime,
-    service: &mut StoreService<MemStore, String>,
+    service: &mut StoreService<S, String>,
     line: &str,
     field: &str,
     body: &str,
@@ -249,9 +251,9 @@ fn fits(response: &str, begin: &str, end: &str) -> bool {
 }
 
 // Serves requests in a row, and returns whether each response begins as it should.
-fn have_responses(
+fn have_responses<S: Alter>(
     rt: &HostRuntime,
-    service: &mut StoreService<MemStore, String>,
+    service: &mut StoreService<S, String>,
     requests: &[(&str, &str, &str, &str)],
 ) -> Result<bool, Fail> {
     for (line, field, body, wanted) in requests {
@@ -263,24 +265,32 @@ fn have_responses(
     Ok(true)
 }
 
-#[test]
-fn responses_are_those_of_a_map(rt: HostRuntime) -> Result<(), Fail> {
-    let mut service = opened(&rt)?;
-    assert!(rt; have_responses(&rt, &mut service, REQUESTS)?);
-    assert!(rt; have_responses(&rt, &mut service, CONDITIONS)?);
-    let mut conn = service.into_connection();
-    assert!(rt; texts::get(&mut conn, "a")?.is_none());
-    last_put_is_shown::<String>();
-    Ok(())
+// Returns whether requests of entries have the responses of a map, which has no entry in the end.
+fn has_entries<S: Alter>(rt: &HostRuntime, conn: Connection<S>) -> Result<bool, Fail> {
+    let mut service = store_of(rt, conn)?;
+    let plain = have_responses(rt, &mut service, REQUESTS)?;
+    let conditional = have_responses(rt, &mut service, CONDITIONS)?;
+    let entry = texts::get(&mut service.into_connection(), "a")?;
+    Ok(plain & conditional & entry.is_none())
 }
 
-#[test]
-fn lists_are_those_of_a_map(rt: HostRuntime) -> Result<(), Fail> {
-    let mut service = opened(&rt)?;
-    assert!(rt; have_responses(&rt, &mut service, ENTRIES)?);
+// Returns whether requests of lists have the responses of a map.
+fn has_lists<S: Alter>(rt: &HostRuntime, conn: Connection<S>) -> Result<bool, Fail> {
+    let mut service = store_of(rt, conn)?;
+    let mut right = have_responses(rt, &mut service, ENTRIES)?;
     for (line, field, begin, end) in LISTS {
-        let response = sent(&rt, &mut service, line, field, "")?;
-        assert!(rt; fits(response.as_str(), begin, end));
+        let response = sent(rt, &mut service, line, field, "")?;
+        right = right & fits(response.as_str(), begin, end);
     }
+    Ok(right)
+}
+
+// A database is dropped at each exit of a function that has it, and to show that for a type of sqlite's takes seconds: so
+// functions over any store have the exits.
+#[test]
+fn responses_are_those_of_a_map(rt: HostRuntime) -> Result<(), Fail> {
+    last_put_is_shown::<String>();
+    assert!(rt; has_entries(&rt, Connection::open_in_memory(rt.alloc())?)?);
+    assert!(rt; has_lists(&rt, Connection::open_in_memory(rt.alloc())?)?);
     Ok(())
 }

@@ -1,10 +1,10 @@
 //! Connections that share a store, each turn by itself and a round in one commit.
 
-use crate::served::opened;
+use crate::served::store_of;
 use crate::wires::{Client, WAITING, Wire, seated};
 use rows::texts;
 use slab::Slab;
-use sqlite::MemStore;
+use sqlite::{Alter, Connection};
 use std::test::Fail;
 use std::time::Instant;
 use store::rounds::RoundService;
@@ -41,19 +41,19 @@ fn are_read(peers: &Slab<Peer<Wire>>) -> bool {
 }
 
 // Returns whether the readers have their responses after a round of turns.
-fn are_served(rt: &HostRuntime) -> Result<bool, Fail> {
+fn are_served<S: Alter>(rt: &HostRuntime, conn: Connection<S>) -> Result<bool, Fail> {
     let now = Instant::now(rt)?;
     let mut peers = seated(rt, CLIENTS, now)?;
-    let mut service = opened(rt)?;
+    let mut service = store_of(rt, conn)?;
     let mut unfinished = Vec::new(rt.alloc());
     serve_round(&mut peers, &[0, 1, 2], &mut service, now, &mut unfinished)?;
     Ok(unfinished.is_empty() & are_read(&peers))
 }
 
 // Returns whether the readers have their responses after a round in one commit.
-fn are_settled(
+fn are_settled<S: Alter>(
     rt: &HostRuntime,
-    service: &mut RoundService<MemStore, String>,
+    service: &mut RoundService<S, String>,
 ) -> Result<bool, Fail> {
     let now = Instant::now(rt)?;
     let mut peers = seated(rt, CLIENTS, now)?;
@@ -63,19 +63,19 @@ fn are_settled(
     Ok(stands & unfinished.is_empty() & are_read(&peers))
 }
 
-#[test]
-fn connections_share_the_entries(rt: HostRuntime) -> Result<(), Fail> {
-    assert!(rt; are_served(&rt)?);
-    Ok(())
+// Returns whether the readers have their responses, and the entry is committed.
+fn are_committed<S: Alter>(rt: &HostRuntime, conn: Connection<S>) -> Result<bool, Fail> {
+    let conn = store_of(rt, conn)?.into_connection();
+    let mut service: RoundService<S, String> = RoundService::new(rt.alloc(), conn);
+    let settled = are_settled(rt, &mut service)?;
+    let mut conn = service.into_connection();
+    let outside = !texts::is_in_transaction(&conn);
+    Ok(settled & outside & texts::get(&mut conn, "a")?.is_some())
 }
 
 #[test]
-fn a_round_is_one_commit(rt: HostRuntime) -> Result<(), Fail> {
-    let conn = opened(&rt)?.into_connection();
-    let mut service: RoundService<MemStore, String> = RoundService::new(rt.alloc(), conn);
-    assert!(rt; are_settled(&rt, &mut service)?);
-    let mut conn = service.into_connection();
-    assert!(rt; !texts::is_in_transaction(&conn));
-    assert!(rt; texts::get(&mut conn, "a")?.is_some());
+fn connections_share_the_entries(rt: HostRuntime) -> Result<(), Fail> {
+    assert!(rt; are_served(&rt, Connection::open_in_memory(rt.alloc())?)?);
+    assert!(rt; are_committed(&rt, Connection::open_in_memory(rt.alloc())?)?);
     Ok(())
 }
