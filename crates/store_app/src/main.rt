@@ -6,7 +6,8 @@ mod goods;
 use goods::Goods;
 use http_server::Config;
 use rows::{files, texts};
-use sqlite::{Alter, Connection, Unknown};
+use sqlite::{Connection, FileStore, Unknown};
+use sqlite_disk::Disk;
 use std::hash::RandomState;
 use std::process::ExitCode;
 use std::{env, io};
@@ -16,14 +17,17 @@ use store::service::StoreService;
 use store::stream::serve_stream;
 
 /// Serves the requests of standard input by the entries of a store. Returns the status to exit with.
-fn serve<S: Alter>(rt: &HostRuntime, mut conn: Connection<S>) -> io::Result<u8> {
+fn serve<D: Disk + Drop>(
+    rt: &HostRuntime,
+    mut conn: Connection<FileStore<D>>,
+) -> io::Result<u8> {
     if !texts::is_empty(&conn) && !texts::is_store(&conn) {
         return Ok(1);
     }
     if prepare(&mut conn).is_err() {
         return Ok(1);
     }
-    let mut service: StoreService<S, Goods, ByField> = StoreService::new(rt.alloc(), conn);
+    let mut service: StoreService<FileStore<D>, Goods, ByField> = StoreService::new(rt.alloc(), conn);
     let keys = RandomState::new(rt)?;
     let (mut reader, mut writer) = (rt.stdin(), io::writer(rt));
     serve_stream(

@@ -209,7 +209,7 @@ const LISTS: &[(&str, &str, &str, &str)] = &[
 ];
 
 /// Makes the table of a database, and returns its store.
-pub fn store_of<S: Alter>(
+pub fn store_of<S: Alter + Drop>(
     rt: &HostRuntime,
     mut conn: Connection<S>,
 ) -> Result<StoreService<S, String>, Fail> {
@@ -266,7 +266,7 @@ fn have_responses<S: Alter>(
 }
 
 // Returns whether requests of entries have the responses of a map, which has no entry in the end.
-fn has_entries<S: Alter>(rt: &HostRuntime, conn: Connection<S>) -> Result<bool, Fail> {
+fn has_entries<S: Alter + Drop>(rt: &HostRuntime, conn: Connection<S>) -> Result<bool, Fail> {
     let mut service = store_of(rt, conn)?;
     let plain = have_responses(rt, &mut service, REQUESTS)?;
     let conditional = have_responses(rt, &mut service, CONDITIONS)?;
@@ -275,7 +275,7 @@ fn has_entries<S: Alter>(rt: &HostRuntime, conn: Connection<S>) -> Result<bool, 
 }
 
 // Returns whether requests of lists have the responses of a map.
-fn has_lists<S: Alter>(rt: &HostRuntime, conn: Connection<S>) -> Result<bool, Fail> {
+fn has_lists<S: Alter + Drop>(rt: &HostRuntime, conn: Connection<S>) -> Result<bool, Fail> {
     let mut service = store_of(rt, conn)?;
     let mut right = have_responses(rt, &mut service, ENTRIES)?;
     for (line, field, begin, end) in LISTS {

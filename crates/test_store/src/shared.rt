@@ -41,7 +41,7 @@ fn are_read(peers: &Slab<Peer<Wire>>) -> bool {
 }
 
 // Returns whether the readers have their responses after a round of turns.
-fn are_served<S: Alter>(rt: &HostRuntime, conn: Connection<S>) -> Result<bool, Fail> {
+fn are_served<S: Alter + Drop>(rt: &HostRuntime, conn: Connection<S>) -> Result<bool, Fail> {
     let now = Instant::now(rt)?;
     let mut peers = seated(rt, CLIENTS, now)?;
     let mut service = store_of(rt, conn)?;
@@ -64,7 +64,7 @@ fn are_settled<S: Alter>(
 }
 
 // Returns whether the readers have their responses, and the entry is committed.
-fn are_committed<S: Alter>(rt: &HostRuntime, conn: Connection<S>) -> Result<bool, Fail> {
+fn are_committed<S: Alter + Drop>(rt: &HostRuntime, conn: Connection<S>) -> Result<bool, Fail> {
     let conn = store_of(rt, conn)?.into_connection();
     let mut service: RoundService<S, String> = RoundService::new(rt.alloc(), conn);
     let settled = are_settled(rt, &mut service)?;
