@@ -8,7 +8,7 @@ from lines import lines_of
 from omitted import check_omitted, mark_never_null
 from parts import INTEGER, MARK, PUBLIC, Part, check_defaults, name_defaults, part_of, spellings, variant_field
 from refusals import (
-    NAME, check_cycles, check_foreign_marks, check_inside, check_lossless, check_newtype, check_param, check_params, check_places, check_stable, check_tagged,
+    NAME, check_cycles, check_derives, check_foreign_marks, check_inside, check_keys, check_lossless, check_newtype, check_param, check_params, check_places, check_stable, check_tagged,
     check_type, check_values, check_written, split_at_commas,
 )
 from serde import USE as USE_OF_SERDE
@@ -58,6 +58,7 @@ DERIVE = re.compile(r"#\[derive\(([^)]*)\)\]")
 WORD = r'(?:once|closed|lossless|stable|events|inside|refused|(?:rename_all|tag)\b(?:"[^"]*"|[^",])*)'
 WORDS = rf"\s*//\s*({WORD}(?:,\s*{WORD})*)"
 PARAMS = r"(?:<([^{}]*)>)?"
+NO_TYPE = re.compile(r"(?:pub(?:\([a-z ]+\))?\s+)?(impl|fn|const|static|mod|type|trait|extern|unsafe|macro_rules!)(?=\W|$)")
 BEGUN = re.compile(rf"{PUBLIC}(struct|enum|union)\s+({NAME})")
 HEAD = re.compile(rf"{PUBLIC}(struct|enum)\s+({NAME})\s*{PARAMS}\s*\{{(?:{WORDS})?")
 NEWTYPE = re.compile(rf"{PUBLIC}struct\s+({NAME})\s*{PARAMS}\s*\(\s*{PUBLIC}(.+?)\s*,?\s*\);(?:\s*//\s*(.*))?")
@@ -109,7 +110,9 @@ def head_of(bare, line, above):
     if re.match(rf"{PUBLIC}(?:struct|enum)\s+{NAME}\s*{PARAMS}\s*\{{\s*//", bare):
         raise Refused(f'line {line}: behind a type stand words, with commas between: once, closed, lossless, stable, events, inside, refused, tag "kind", rename_all "camelCase": {bare}')
     if re.match(rf"{PUBLIC}struct\s+{NAME}\s*(?:<[^{{(]*>)?\s*\(", bare):
-        raise Refused(f"line {line}: a struct of unnamed values has one, and stands on one line: `struct Name(Type);`: {bare}")
+        raise Refused(f"line {line}: a struct of unnamed values has one, and stands on one line: `struct Name(Type);`, as `struct Name((A, B));`: {bare}")
+    if re.match(rf"{PUBLIC}struct\s+{NAME}\s*;", bare):
+        raise Refused(f"line {line}: a struct has a field: write `()` for the type, which is `null`: {bare}")
     raise Refused(f"line {line}: not the first line of a `struct Name {{` or an `enum Name {{`: {bare}")
 
 
@@ -121,7 +124,7 @@ def newtype_of(bare, line, above):
     public, name, params, shown, of, text = found.groups()
     asked, above = in_words(above, "newtype", of)
     if "check" in asked and not re.search(r"\bcheck\b", text or ""):
-        raise Refused(f"line {line}: what `try_from` refuses, a function says: write `// check FUNCTION` behind the newtype: {bare}")
+        raise Refused(f"line {line}: what `try_from` refuses, a function says: write `// check FUNCTION` behind the newtype, and the function into `src/checks.rt` (docs/YOUR-OWN-TYPES.md): {bare}")
     above = [it for _, it in above]
     derives = [name for it in above for names in DERIVE.findall(it) for name in re.findall(r"\w+", names)]
     words, check = (), ""
@@ -150,12 +153,13 @@ class Reader:
     """What stands in a file: its types, those whose first line is refused, its `use` lines and the faults of its lines.
 
     `above` are the comments, attributes and blank lines above the next line, with their numbers; `now` is the type that is not
-    closed, and `variant` its variant that is not; `is_head` says that its first line goes on, and `is_left_out` that it was refused.
+    closed, and `variant` its variant that is not; `is_head` says that its first line goes on, and `is_left_out` that it was refused;
+    `open_braces` counts those of an item that is no type.
     """
 
     def __init__(self, text):
         self.found, self.left_out, self.uses, self.faults = [], [], [], Faults()
-        self.above, self.now, self.variant, self.is_head, self.is_left_out = [], None, None, False, False
+        self.above, self.now, self.variant, self.is_head, self.is_left_out, self.open_braces = [], None, None, False, False, 0
         for number, bare in lines_of(text):
             count = len(self.faults)
             self.faults.seen(self.take, bare, number)
@@ -170,6 +174,11 @@ class Reader:
 
     def take(self, bare, number):
         """Takes a line."""
+        if self.open_braces:
+            self.open_braces += bare.count("{") - bare.count("}")
+            return
+        if bare.startswith("//!"):
+            return
         if bare.startswith("}") and any(line.startswith("#[") for _, line in self.above):
             self.faults.append(f"line {number}: no field or variant stands below the attribute: {bare}")
         if ALONE.fullmatch(bare):
@@ -209,6 +218,9 @@ class Reader:
         if USE.fullmatch(bare):
             self.uses += [it for _, it in above] + ([] if USE_OF_SERDE.match(bare) else [bare])
             return
+        if found := NO_TYPE.match(bare):
+            self.open_braces = bare.count("{") - bare.count("}")
+            raise Refused(f"line {number}: `{found[1]}` is no type: write it into a file of `src`, and leave it out here: {bare}")
         begun = BEGUN.match(bare)
         try:
             newtype = newtype_of(bare, number, above)
@@ -277,13 +289,13 @@ def check(found, uses, left_out):
     foreign = names_known(named, [line for line in uses if not re.match(r"(?:pub )?use (?:std|core|alloc)::", line)])
     faults += mark_inside(found, known)
     for it in found:
-        faults += [*check_foreign_marks(it), *check_tagged(it), *check_written(it), *check_params(it, known)]
+        faults += [*check_foreign_marks(it), *check_tagged(it), *check_written(it), *check_params(it, known), *check_derives(it, found, uses)]
     for it in named:
         names = known if "text" in it.words else foreign
         for part in it.parts:
             faults.seen(check_type, part.of, {*names, "char"} if it.kind == "newtype" else names, part.line)
     faults += [*check_defaults(found), *check_cycles(found), *check_omitted(found, uses), *check_places(found, uses)]
-    faults += [*check_stable(found, uses), *check_lossless(found, uses), *check_refused(found)]
+    faults += [*check_keys(found), *check_stable(found, uses), *check_lossless(found, uses), *check_refused(found)]
     mark_never_null(found)
     name_defaults(found)
     for it in found:

@@ -49,7 +49,8 @@ UNREAD = {
     "i128 u128": "an integer of 64 bits, or `miniserde::json::Number`, which keeps any number",
     "char str OsString Path PathBuf": "`String`",
     "BTreeSet BinaryHeap HashSet LinkedList": "`Vec`",
-    "Arc Cell Cow Mutex Rc RefCell": "the type in it, or a `Box` of that",
+    "Arc Cell Mutex Rc RefCell": "the type in it, or a `Box` of that",
+    "Cow": "the type that owns it, as `String`",
     "Duration Instant SystemTime": "an integer, or a newtype of one",
     "Result": "a struct of two `Option`s",
     "NonZeroU8 NonZeroU16 NonZeroU32 NonZeroU64 NonZeroUsize NonZeroI8 NonZeroI16 NonZeroI32 NonZeroI64 NonZeroIsize": "a newtype of an integer with `check`",
@@ -97,6 +98,11 @@ def check_type(of, known, line):
     for name in re.findall(r"(?<![\w:])" + NAME, of):
         if name in INSTEAD and name not in known:
             raise Refused(f"line {line}: `{name}` is not read: {INSTEAD[name]}")
+    for library, name in re.findall(rf"\b(std|core|alloc|serde_json)::(?:\w+::)*({NAME})", of):
+        if library == "serde_json":
+            raise Refused(f"line {line}: `{name}` of serde_json is not read: `miniserde::json::{'Object' if name == 'Map' else name}`: {of}")
+        if name in INSTEAD:
+            raise Refused(f"line {line}: `{name}` is not read: {INSTEAD[name]}")
 
 
 def check_param(param, bare, line):
@@ -112,6 +118,29 @@ def check_param(param, bare, line):
         raise Refused(f"line {line}: each impl has the bounds that it needs: write `{name}` for `{param}`: {bare}")
     if not re.fullmatch(r"[A-Z][A-Za-z0-9]*", name):
         raise Refused(f"line {line}: the name of a parameter begins with a capital letter and has no `_`, as `T`: {bare}")
+
+
+def check_derives(it, found, uses):
+    """Refuses a `Default`, which nothing derives, and a `Clone` around what is copied by `try_clone`, since that may fail to allocate."""
+    documents = {"Array", "Document", "Number", "Object", "Unique", "Value"} - names_beside("miniserde::json", found, uses)
+    if "Default" in it.derives:
+        yield f"line {it.line}: `Default` is not derived: leave it out, and mark the fields that may be missing: {it.shown}"
+    for part in it.parts if "Clone" in it.derives else []:
+        name = next((each for each in re.findall(rf"(?:(?<![\w:])|(?<=json::)){NAME}", part.of) if each in documents), None)
+        if name:
+            yield f"line {part.line}: `{name}` has `try_clone`, and no `Clone`: leave `Clone` out of the derives of `{it.shown}`: {part.of}"
+
+
+def check_keys(found):
+    """Refuses a map whose key is a type of the file without the word `key`."""
+    plain = {it.name: it for it in found if "key" not in it.words}
+    for it in found:
+        for part in it.parts:
+            for name in re.findall(rf"\b(?:BTreeMap|HashMap)<\s*({NAME})\s*,", part.of):
+                if name in plain and plain[name].kind == "newtype":
+                    yield f"line {part.line}: a map's key is a newtype with the word `key`: mark `{name}` with `// key`: {part.of}"
+                elif name in plain:
+                    yield f"line {part.line}: `{name}` is no key: write `String`, a newtype with `key`, or a key by hand (docs/BY-HAND.md): {part.of}"
 
 
 def check_params(it, known):

@@ -8,14 +8,27 @@ SERDE = re.compile(r"#\[serde\((.*)\)\s*\]", re.S)
 USE = re.compile(r"(?:pub )?use serde(?:_derive)?\b")
 # What stands for attributes that are not read.
 INSTEAD = {
-    "content": "an enum is tagged by the name of its variant, or internally",
+    "content": "write a struct with the kind as an enum without data, and the data in `Option`s",
+    "deserialize_with": "write a newtype with the word `text`",
     "flatten": "write the fields of the inner struct",
+    "other": "an unknown variant is invalid: write a struct with the kind as a `String`",
     "rename_all_fields": "write `rename` above the fields",
+    "serialize_with": "write a newtype with the word `text`",
     "skip": "leave the field out",
     "skip_deserializing": "make the field an `Option`",
     "skip_serializing": "leave the field out",
-    "untagged": "an enum is tagged by the name of its variant, or internally",
+    "untagged": "write a struct with the data of each variant in an `Option`, or keep it as a `miniserde::json::Document`",
     "with": "write a newtype with the word `text`",
+}
+# What is written where an attribute that is read elsewhere is not.
+ELSEWHERE = {
+    ("alias", "variant"): ": a variant has one name",
+    ("deny_unknown_fields", "enum"): ": write it above each struct that is a variant's",
+    ("rename", "enum"): ": in JSON a type has no name, so leave it out",
+    ("rename", "struct"): ": in JSON a type has no name, so leave it out",
+    ("rename_all", "variant"): ": write `rename` above each of its fields",
+    ("transparent", "struct"): ": write a newtype, as `struct Name(Type);`",
+    ("tag", "struct"): ": write an enum of one variant",
 }
 # Where each attribute that is read may stand.
 OF = {
@@ -57,14 +70,14 @@ def word_for(part, of, inner, line):
         raise Refused(f"line {line}: nothing stands for `{name}` of serde here{f': {instead}' if instead else ''}: {part}")
     if of not in OF[name]:
         what = {"struct": "a struct", "enum": "an enum", "newtype": "a newtype", "field": "a field", "variant": "a variant"}
-        instead = ": write it above each struct that is a variant's" if (name, of) == ("deny_unknown_fields", "enum") else ""
+        instead = ELSEWHERE.get((name, of), "")
         raise Refused(f"line {line}: `{name}` of serde is not read at {what[of]}{instead}: {part}")
     if "(" in part:
         raise Refused(f'line {line}: what is written is what is read: write `{name} = ".."`: {part}')
     if name == "default" and value:
         raise Refused(f"line {line}: no function gives a missing field its value: write `// default VALUE` behind the field, or make it an `Option`: {part}")
     if name == "skip_serializing_if" and value != '"Option::is_none"':
-        raise Refused(f"line {line}: a field that is left out is an `Option` that is `None`: make it one, with `Option::is_none`: {part}")
+        raise Refused(f"line {line}: a field that is left out is an `Option` that is `None`: make it one, with `Option::is_none`, or leave this out, and the empty value is written: {part}")
     if name in ("into", "try_from") and value.strip('"') != inner:
         raise Refused(f"line {line}: a newtype with a check is read and written as what is in it: write `check FUNCTION` behind it, and {name} = \"{inner}\": {part}")
     return {

@@ -10,12 +10,18 @@ use miniserde::value;
 use std::alloc::Global;
 use test_tables::{Wrong, expect_ok};
 
+// A value is dropped at each `?` behind it, and each drop of a document takes seconds of proof: so a function has few of both.
+
+/// Returns whether the copy of a document is written as expected.
+fn is_copied(alloc: Global, text: &str, expected: &str) -> Result<bool> {
+    let value: Value = from_str(alloc, text)?;
+    is_written(alloc, &value.try_clone(alloc)?, expected)
+}
+
 /// Returns whether a document is read as each type of documents that takes any, and its copy is written as expected.
 fn is_document(alloc: Global, text: &str, expected: &str) -> Result<bool> {
-    let value: Value = from_str(alloc, text)?;
-    let copy = value.try_clone(alloc)?;
     Ok(
-        is_written(alloc, &copy, expected)?
+        is_copied(alloc, text, expected)?
             && is_read::<Value>(alloc, text, expected)?
             && is_fed::<Value>(alloc, text, expected)?
             && is_fed::<Unique>(alloc, text, expected)?
@@ -26,34 +32,40 @@ fn is_document(alloc: Global, text: &str, expected: &str) -> Result<bool> {
     )
 }
 
+/// Returns whether an array is copied and collected.
+fn is_array(alloc: Global, text: &str) -> Result<bool> {
+    let array: Array = from_str(alloc, text)?;
+    let is_copied = is_written(alloc, &array.try_clone(alloc)?, text)?;
+    Ok(is_copied && is_written(alloc, &Array::from_iter(alloc, array)?, text)?)
+}
+
 /// Returns whether many items are read as an array, copied and collected.
 fn are_items(alloc: Global) -> Result<bool> {
     let text = numbered(alloc, ("[", "]"), ("[\"", "\"]"), MIXED)?;
-    let array: Array = from_str(alloc, text.as_str())?;
-    let copy = array.try_clone(alloc)?;
-    let collected = Array::from_iter(alloc, array)?;
     Ok(
         is_document(alloc, text.as_str(), text.as_str())?
             && is_read::<Array>(alloc, text.as_str(), text.as_str())?
             && is_fed::<Array>(alloc, text.as_str(), text.as_str())?
-            && is_written(alloc, &copy, text.as_str())?
-            && is_written(alloc, &collected, text.as_str())?,
+            && is_array(alloc, text.as_str())?,
     )
+}
+
+/// Returns whether an object is copied and collected.
+fn is_object(alloc: Global, text: &str, expected: &str) -> Result<bool> {
+    let object: Object = from_str(alloc, text)?;
+    let is_copied = is_written(alloc, &object.try_clone(alloc)?, expected)?;
+    Ok(is_copied && is_written(alloc, &Object::from_iter(alloc, object)?, expected)?)
 }
 
 /// Returns whether many members, in any order, are read as an object, copied and collected.
 fn are_members(alloc: Global) -> Result<bool> {
     let text = numbered(alloc, ("{", "}"), ("\"", "\":{}"), FALLING)?;
     let expected = numbered(alloc, ("{", "}"), ("\"", "\":{}"), RISING)?;
-    let object: Object = from_str(alloc, text.as_str())?;
-    let copy = object.try_clone(alloc)?;
-    let collected = Object::from_iter(alloc, object)?;
     Ok(
         is_document(alloc, text.as_str(), expected.as_str())?
             && is_read::<Object>(alloc, text.as_str(), expected.as_str())?
             && is_fed::<Object>(alloc, text.as_str(), expected.as_str())?
-            && is_written(alloc, &copy, expected.as_str())?
-            && is_written(alloc, &collected, expected.as_str())?,
+            && is_object(alloc, text.as_str(), expected.as_str())?,
     )
 }
 
@@ -69,49 +81,80 @@ fn are_texts(alloc: Global) -> Result<bool> {
     )
 }
 
+/// Returns whether a number text is copied, alone and as a number that was read.
+fn is_number(alloc: Global, text: &str) -> Result<bool> {
+    let copy = NumberText::new(alloc, text)?.try_clone(alloc)?;
+    let is_kept = is_written(alloc, &Number::Text(copy), text)?;
+    let read: Number = from_str(alloc, text)?;
+    Ok(is_kept && is_written(alloc, &read.try_clone(alloc)?, text)?)
+}
+
 /// Returns whether a number of many digits is read, copied and written: as a number text, alone and in a document.
 fn are_digits(alloc: Global) -> Result<bool> {
     let text = repeated(alloc, MANY, "-1", "0", "e5")?;
     let listed = repeated(alloc, MANY, "[1.", "5", "]")?;
-    let number = NumberText::new(alloc, text.as_str())?;
-    let copy = number.try_clone(alloc)?;
-    let read: Number = from_str(alloc, text.as_str())?;
-    let copied = read.try_clone(alloc)?;
     Ok(
         is_document(alloc, listed.as_str(), listed.as_str())?
             && is_read::<Number>(alloc, text.as_str(), text.as_str())?
             && is_fed::<Number>(alloc, text.as_str(), text.as_str())?
-            && is_written(alloc, &Number::Text(copy), text.as_str())?
-            && is_written(alloc, &copied, text.as_str())?,
+            && is_number(alloc, text.as_str())?,
     )
+}
+
+/// Returns an array to which many items were added one by one.
+fn array_of_many(alloc: Global) -> Result<Array> {
+    let mut array = Array::new(alloc);
+    for i in 0..MANY {
+        let number = i.wrapping_add(100_000);
+        array.push(value!(in alloc; number)?)?;
+    }
+    Ok(array)
+}
+
+/// Returns an object to which many members were added one by one, of which most replaced another.
+fn object_of_many(alloc: Global) -> Result<Object> {
+    let mut object = Object::new(alloc);
+    for i in 0..MANY {
+        let name = format!(in alloc; "{}", i.wrapping_add(100_000))?;
+        object.put(alloc, name.as_str(), value!(in alloc; {})?)?;
+        object.put(alloc, "100000", value!(in alloc; {})?)?;
+    }
+    Ok(object)
 }
 
 /// Returns whether an array takes many items one by one, and an object many members, of which most replace another.
 fn are_added(alloc: Global) -> Result<bool> {
-    let mut array = Array::new(alloc);
-    let mut object = Object::new(alloc);
-    for i in 0..MANY {
-        let number = i.wrapping_add(100_000);
-        array.push(value!(in alloc; number)?)?;
-        let name = format!(in alloc; "{number}")?;
-        object.put(alloc, name.as_str(), value!(in alloc; {})?)?;
-        object.put(alloc, "100000", value!(in alloc; {})?)?;
-    }
     let items = numbered(alloc, ("[", "]"), ("", ""), RISING)?;
     let members = numbered(alloc, ("{", "}"), ("\"", "\":{}"), RISING)?;
-    Ok(is_written(alloc, &array, items.as_str())? && is_written(alloc, &object, members.as_str())?)
+    Ok(
+        is_written(alloc, &array_of_many(alloc)?, items.as_str())?
+            && is_written(alloc, &object_of_many(alloc)?, members.as_str())?,
+    )
+}
+
+/// Returns the text of an array of a long text, three times.
+fn three_texts(alloc: Global) -> Result<String> {
+    let first = repeated(alloc, MANY, "[\"", "é", "\",\"")?;
+    let second = repeated(alloc, MANY, first.as_str(), "é", "\",\"")?;
+    repeated(alloc, MANY, second.as_str(), "é", "\"]")
 }
 
 /// Returns whether `value!` takes a long text as an expression and as a name.
 fn is_made(alloc: Global) -> Result<bool> {
     let long = repeated(alloc, MANY, "", "é", "")?;
-    let named = value!(in alloc; {(long.as_str()): null})?;
-    let listed = value!(in alloc; [long.as_str(), &long, long])?;
     let name = repeated(alloc, MANY, "{\"", "é", "\":null}")?;
-    let first = repeated(alloc, MANY, "[\"", "é", "\",\"")?;
-    let second = repeated(alloc, MANY, first.as_str(), "é", "\",\"")?;
-    let items = repeated(alloc, MANY, second.as_str(), "é", "\"]")?;
-    Ok(is_written(alloc, &named, name.as_str())? && is_written(alloc, &listed, items.as_str())?)
+    let items = three_texts(alloc)?;
+    Ok(
+        is_written(
+            alloc,
+            &value!(in alloc; {(long.as_str()): null})?,
+            name.as_str(),
+        )? && is_written(
+            alloc,
+            &value!(in alloc; [long.as_str(), &long, long])?,
+            items.as_str(),
+        )?,
+    )
 }
 
 #[test]
