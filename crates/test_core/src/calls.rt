@@ -41,19 +41,19 @@ mod tests {
             (
                 "{\"id\":7,\"state\":\"packed\",\"extra\":{\"b\":-0,\"a\":[1.50]}}",
                 Some(
-                    "{\"id\":7,\"state\":\"sent\",\"weights\":[],\"tasks\":[],\"extra\":{\"a\":[1.50],\"b\":0}}",
+                    "{\"id\":7,\"state\":\"sent\",\"before\":\"packed\",\"weights\":[],\"tasks\":[],\"extra\":{\"a\":[1.50],\"b\":0}}",
                 ),
             ),
             (
-                "{\"extra\":null,\"note\":\"x\",\"weights\":[1,2],\"state\":\"sent\",\"id\":0}",
+                "{\"extra\":null,\"note\":\"x\",\"weights\":[1,2],\"before\":\"sent\",\"state\":\"sent\",\"id\":0}",
                 Some(
-                    "{\"id\":0,\"state\":\"sent\",\"weights\":[1,2],\"tasks\":[],\"note\":\"x\",\"extra\":null}",
+                    "{\"id\":0,\"state\":\"sent\",\"before\":\"sent\",\"weights\":[1,2],\"tasks\":[],\"note\":\"x\",\"extra\":null}",
                 ),
             ),
             (
                 "{\"id\":1,\"state\":\"sent\",\"tasks\":[\"Closed\",{\"Weighed\":9},{\"Labelled\":\"a\"},{\"Sealed\":true}],\"extra\":1}",
                 Some(
-                    "{\"id\":1,\"state\":\"sent\",\"weights\":[],\"tasks\":[\"Closed\",{\"Weighed\":9},{\"Labelled\":\"a\"},{\"Sealed\":true}],\"extra\":1}",
+                    "{\"id\":1,\"state\":\"sent\",\"before\":\"packed\",\"weights\":[],\"tasks\":[\"Closed\",{\"Weighed\":9},{\"Labelled\":\"a\"},{\"Sealed\":true}],\"extra\":1}",
                 ),
             ),
             (
@@ -62,6 +62,10 @@ mod tests {
             ),
             ("{\"id\":7,\"id\":7,\"state\":\"packed\",\"extra\":1}", None),
             ("{\"id\":7,\"state\":\"Packed\",\"extra\":1}", None),
+            (
+                "{\"id\":7,\"state\":\"sent\",\"before\":null,\"extra\":1}",
+                None,
+            ),
             (
                 "{\"id\":7,\"state\":\"packed\",\"extra\":1,\"more\":1}",
                 None,

@@ -6,9 +6,10 @@ ghost use Rattle.std.specs.Prelude.{true, List, codes, [], ◌∷◌, ⊤, refl}
 
 use crate::task::Task;
 use miniserde_core::derived::{
-    Closed, Empty, Event, FourLent, FourParts, Fragment, FromJson, MarkedFour, OmitSlot, Omitted,
-    Once, Parts, Plain, Ranged, Record, Result, Serialize, Slot, Slots, Source, UnitEnum, Variants,
-    WithDefault, Writer, WrittenFields, read_record, read_variant, take_four, write_members,
+    Closed, Empty, Event, FourLent, FourParts, Fragment, FromJson, Given, Global, MarkedFour,
+    MarkedSlot, OmitSlot, Omitted, Once, Parts, Plain, Ranged, Record, Result, Serialize, Slot,
+    Slots, Source, UnitEnum, Variants, WithDefault, Writer, WrittenFields, read_record,
+    read_variant, take_four, write_members,
 };
 use miniserde_core::json::Document;
 use miniserde_laws::{
@@ -100,10 +101,23 @@ impl Stable for State {
 pub struct Parcel {
     pub id: u64,
     pub state: State,
+    pub before: State,
     pub weights: Vec<u32>,
     pub tasks: Vec<Task>,
     pub note: Option<String>,
     pub extra: Document,
+}
+
+/// The value of a missing `before`.
+#[derive(Drop)]
+pub struct ParcelBeforeDefault {}
+
+impl Given<State> for ParcelBeforeDefault {
+    ghost given = { str (codes "packed") };
+
+    fn make(_alloc: Global) -> Result<State> {
+        Ok(State::Packed)
+    }
 }
 
 // Its fields, and their names.
@@ -112,14 +126,14 @@ type ParcelFields = MarkedFour<
     Once<Plain>,
     State,
     Plain,
+    State,
+    WithDefault<ParcelBeforeDefault>,
     Vec<u32>,
     WithDefault<Empty>,
-    Vec<Task>,
-    WithDefault<Empty>,
-    OmitSlot<String, Plain, Slot<Document, Closed>>,
+    MarkedSlot<Vec<Task>, WithDefault<Empty>, OmitSlot<String, Plain, Slot<Document, Closed>>>,
 >;
 
-const PARCEL_NAMES: &[&str] = &["id", "state", "weights", "tasks", "note", "extra"];
+const PARCEL_NAMES: &[&str] = &["id", "state", "before", "weights", "tasks", "note", "extra"];
 
 impl Record for Parcel {
     ghost use Rattle.test_core.specs.declared.parcel.TheConstants.{PARCEL_NAMES};
@@ -128,15 +142,37 @@ impl Record for Parcel {
 
     ghost names = { names_of PARCEL_NAMES };
 
-    ghost values = { λ v. (v.id, (v.state, (v.weights, (v.tasks, (v.note, (v.extra, tt)))))) };
+    ghost values = { λ v. (
+      v.id,
+      (
+        v.state,
+        (
+          v.before,
+          (
+            v.weights,
+            (
+              v.tasks,
+              (
+                v.note,
+                (
+                  v.extra,
+                  tt,
+                ),
+              ),
+            ),
+          ),
+        ),
+      ),
+    ) };
 
     ghost made = { λ x. record {
       id = x.0;
       state = x.1.0;
-      weights = x.1.1.0;
-      tasks = x.1.1.1.0;
-      note = x.1.1.1.1.0;
-      extra = x.1.1.1.1.1.0;
+      before = x.1.1.0;
+      weights = x.1.1.1.0;
+      tasks = x.1.1.1.1.0;
+      note = x.1.1.1.1.1.0;
+      extra = x.1.1.1.1.1.1.0;
     } };
 
     ghost bijective = { (λ v. refl, λ x. refl) };
@@ -148,11 +184,12 @@ impl Record for Parcel {
     }
 
     fn build(parts: Self::Values) -> Parcel {
-        let FourParts(id, state, weights, tasks, parts) = take_four(parts);
-        let Parts(note, Parts(extra, ())) = parts;
+        let FourParts(id, state, before, weights, parts) = take_four(parts);
+        let Parts(tasks, Parts(note, Parts(extra, ()))) = parts;
         Parcel {
             id,
             state,
+            before,
             weights,
             tasks,
             note,
@@ -185,9 +222,12 @@ impl Serialize for Parcel {
             &FourLent(
                 &self.id,
                 &self.state,
+                &self.before,
                 &self.weights,
-                &self.tasks,
-                Parts(Omitted(&self.note), Parts(&self.extra, ())),
+                Parts(
+                    &self.tasks,
+                    Parts(Omitted(&self.note), Parts(&self.extra, ())),
+                ),
             ),
         )
     }
@@ -199,6 +239,7 @@ impl Ranged for Parcel {
     fn ranged(&self) {
         self.id.ranged();
         self.state.ranged();
+        self.before.ranged();
         self.weights.ranged();
         self.tasks.ranged();
         self.note.ranged();

@@ -10,6 +10,7 @@ pub enum State { // rename_all "lowercase", lossless, stable
 pub struct Parcel { // closed, lossless, stable
     pub id: u64, // once
     pub state: State,
+    pub before: State, // default Packed
     pub weights: Vec<u32>, // default
     pub tasks: Vec<Task>, // default
     pub note: Option<String>, // omit
