@@ -89,6 +89,8 @@ def marks_of(kind, text, line):
 def part_of(kind, text, line, above, style):
     """The field or variant of a line. Without `rename` its name in JSON has the style. Each line above it has its number in front."""
     asked, above = in_words(above, "field" if kind == "struct" else "variant")
+    # A default that is written stands for serde's, which has no value.
+    asked = [word for word in asked if word != "default" or not re.search(r"//.*\bdefault\b", text)]
     text, above = with_words(text, asked), [it for _, it in above]
     marks = MARKS.search(text)
     words, default, rename, aliases = marks_of(kind, marks.group(1) if marks else "", line)
