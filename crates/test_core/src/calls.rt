@@ -51,13 +51,13 @@ mod tests {
                 ),
             ),
             (
-                "{\"id\":1,\"state\":\"sent\",\"tasks\":[\"Closed\",{\"Weighed\":9},{\"Labelled\":\"a\"},{\"Sealed\":true}],\"extra\":1}",
+                "{\"id\":1,\"state\":\"sent\",\"tasks\":[{\"kind\":\"Done\"},{\"grams\":9,\"kind\":\"Weighed\"},{\"kind\":\"Labelled\"},{\"kind\":\"Sealed\",\"twice\":true}],\"extra\":1}",
                 Some(
-                    "{\"id\":1,\"state\":\"sent\",\"before\":\"packed\",\"weights\":[],\"tasks\":[\"Closed\",{\"Weighed\":9},{\"Labelled\":\"a\"},{\"Sealed\":true}],\"extra\":1}",
+                    "{\"id\":1,\"state\":\"sent\",\"before\":\"packed\",\"weights\":[],\"tasks\":[{\"kind\":\"Done\"},{\"kind\":\"Weighed\",\"grams\":9},{\"kind\":\"Labelled\",\"text\":\"\"},{\"kind\":\"Sealed\",\"twice\":true}],\"extra\":1}",
                 ),
             ),
             (
-                "{\"id\":1,\"state\":\"sent\",\"tasks\":[{\"Weighed\":-9}],\"extra\":1}",
+                "{\"id\":1,\"state\":\"sent\",\"tasks\":[{\"kind\":\"Labelled\",\"text\":null}],\"extra\":1}",
                 None,
             ),
             ("{\"id\":7,\"id\":7,\"state\":\"packed\",\"extra\":1}", None),
