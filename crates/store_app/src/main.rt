@@ -17,17 +17,17 @@ use store::service::StoreService;
 use store::stream::serve_stream;
 
 /// Serves the requests of standard input by the entries of a store. Returns the status to exit with.
-fn serve<D: Disk + Drop>(
-    rt: &HostRuntime,
-    mut conn: Connection<FileStore<D>>,
-) -> io::Result<u8> {
+fn serve<D: Disk + Drop>(rt: &HostRuntime, mut conn: Connection<FileStore<D>>) -> io::Result<u8> {
     if !texts::is_empty(&conn) && !texts::is_store(&conn) {
         return Ok(1);
     }
     if prepare(&mut conn).is_err() {
         return Ok(1);
     }
-    let mut service: StoreService<FileStore<D>, Goods, ByField> = StoreService::new(rt.alloc(), conn);
+    let mut service: StoreService<FileStore<D>, Goods, ByField> = StoreService::new(
+        rt.alloc(),
+        conn,
+    );
     let keys = RandomState::new(rt)?;
     let (mut reader, mut writer) = (rt.stdin(), io::writer(rt));
     serve_stream(
