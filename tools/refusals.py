@@ -121,14 +121,14 @@ def check_param(param, bare, line):
 
 
 def check_derives(it, found, uses):
-    """Refuses a `Default`, which nothing derives, and a `Clone` around what is copied by `try_clone`, since that may fail to allocate."""
+    """Refuses a `Default`, which nothing derives, and a `Clone` around what has none, since a copy may fail to allocate."""
     documents = {"Array", "Document", "Number", "Object", "Unique", "Value"} - names_beside("miniserde::json", found, uses)
     if "Default" in it.derives:
         yield f"line {it.line}: `Default` is not derived: leave it out, and mark the fields that may be missing: {it.shown}"
     for part in it.parts if "Clone" in it.derives else []:
         name = next((each for each in re.findall(rf"(?:(?<![\w:])|(?<=json::)){NAME}", part.of) if each in documents), None)
         if name:
-            yield f"line {part.line}: `{name}` has `try_clone`, and no `Clone`: leave `Clone` out of the derives of `{it.shown}`: {part.of}"
+            yield f"line {part.line}: `{name}` has no `Clone`: leave `Clone` out of the derives of `{it.shown}`: {part.of}"
 
 
 def check_keys(found):
