@@ -50,7 +50,7 @@ pub mod unique {
 /// The type `Value`, its place, promises about it, and what `value!` calls.
 pub mod value {
     pub use miniserde_de::documents::ValuePlace;
-    pub use miniserde_into_value::{IntoValue, array_value, null_value, object_value};
+    pub use miniserde_value::json::into_value::{IntoValue, array_value, null_value, object_value};
     pub use miniserde_value::json::value::{
         Value, canonical_by_value, read_is_normal, size_is_tree_size,
     };

@@ -5,6 +5,7 @@ pub mod builder;
 mod copy;
 pub mod document;
 pub mod drop;
+pub mod into_value;
 pub mod number;
 pub mod object;
 mod read;

@@ -1,5 +1,5 @@
 //! Conversions of Rust's values to `Value`, for the macro `value!`.
-#![tactic(auto, using(crate::proofs::Contents::content_of_null, crate::proofs::Contents::content_of_bool, crate::proofs::Contents::content_of_number, crate::proofs::Contents::content_of_string, crate::proofs::Contents::content_of_array, crate::proofs::Contents::content_of_object))]
+#![tactic(auto, using(crate::proofs::ContentTrees::content_of_null, crate::proofs::ContentTrees::content_of_bool, crate::proofs::ContentTrees::content_of_number, crate::proofs::ContentTrees::content_of_string, crate::proofs::ContentTrees::content_of_array, crate::proofs::ContentTrees::content_of_object))]
 
 ghost use Rattle.std.specs.Prelude.{◌≡◌, IfOk, OnErr, IsErrOf, string_bytes};
 ghost use Rattle.miniserde_model.specs.Tree.{Tree, null, truth, nonneg, str};
@@ -9,12 +9,12 @@ ghost use Rattle.miniserde_ser.specs.Trees.{option_tree};
 ghost use Rattle.miniserde_value.specs.Numbers.{number_leaf};
 ghost use Rattle.miniserde_value.specs.Values.{content_of, array_content, object_content};
 
+use super::array::Array;
+use super::number::Number;
+use super::object::Object;
+use super::value::Value;
 use miniserde_keys::{StdInteger, WideInteger};
 use miniserde_model::error::Result;
-use miniserde_value::json::array::Array;
-use miniserde_value::json::number::Number;
-use miniserde_value::json::object::Object;
-use miniserde_value::json::value::Value;
 use std::alloc::Global;
 
 /// A type of values that `value!` converts to a `Value`.
