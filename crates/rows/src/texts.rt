@@ -290,13 +290,13 @@ pub fn has<S: Alter>(conn: &mut Connection<S>, key: &str) -> Result<bool, Error>
 }
 
 /// Returns all keys with their bodies, in the byte order of the keys. Returns the error of the database if it fails.
-pub fn each<S: Alter>(
+pub fn all<S: Alter>(
     alloc: Global,
     conn: &mut Connection<S>,
 ) -> Result<Vec<(String, String)>, Error>
     // They are the rows of the table, none left out and none twice.
-    ensures each { HasCleanDisk (state S.Store conn.new) → (state S.Store conn.old).now.schema ≡ entry_schema
-        → IfOk result (λ each. AreEntries (state S.Store conn.old).now (map texts_of each.items)) }
+    ensures rows { HasCleanDisk (state S.Store conn.new) → (state S.Store conn.old).now.schema ≡ entry_schema
+        → IfOk result (λ listed. AreEntries (state S.Store conn.old).now (map texts_of listed.items)) }
 
     // If it succeeds, the database is as it was.
     ensures same { HasCleanDisk (state S.Store conn.new) → (state S.Store conn.old).now.schema ≡ entry_schema
@@ -318,13 +318,13 @@ pub fn each<S: Alter>(
     ensures clean { HasCleanDisk (state S.Store conn.new) → HasCleanDisk (state S.Store conn.old) }
 {
     let rows = query_each(conn)?;
-    let mut each = Vec::new(alloc);
+    let mut listed = Vec::new(alloc);
     for row in rows.iter() {
         let key: String = row.get(0)?;
         let body: String = row.get(1)?;
-        each.push((key, body))?;
+        listed.push((key, body))?;
     }
-    Ok(each)
+    Ok(listed)
 }
 
 /// Returns the first keys with their bodies from a key on, at most so many, in the byte order of the keys. Returns the error of

@@ -285,15 +285,15 @@ pub fn put_and_get<S: Alter, K: Serialize, V: Stable + Lossless>(
 
 /// Returns all keys with their values, in the byte order of the keys' texts. Returns `Database` if the
 /// database fails, and `Json` if a text means no value or an allocation fails.
-pub fn each<S: Alter, K: Stable + Lossless, V: Stable + Lossless>(
+pub fn all<S: Alter, K: Stable + Lossless, V: Stable + Lossless>(
     alloc: Global,
     conn: &mut Connection<S>,
 ) -> Result<Vec<(K, V)>, Error>
     // They are read from the rows of the table, none left out and none twice.
-    ensures each { HasCleanDisk (state S.Store conn.new) → (state S.Store conn.old).now.schema ≡ entry_schema
-        → IfOk result (λ each. (entries : List (List ℕ × List ℕ)) × AreEntries (state S.Store conn.old).now entries
+    ensures rows { HasCleanDisk (state S.Store conn.new) → (state S.Store conn.old).now.schema ≡ entry_schema
+        → IfOk result (λ listed. (entries : List (List ℕ × List ℕ)) × AreEntries (state S.Store conn.old).now entries
         × AllZip (λ entry read. IsReadFrom K.means K.tree K.real entry.0 read.0
-        × IsReadFrom V.means V.tree V.real entry.1 read.1) entries each.items) }
+        × IsReadFrom V.means V.tree V.real entry.1 read.1) entries listed.items) }
 
     // A row has a key or a body that is the canonical text of no value.
     ensures invalid { HasCleanDisk (state S.Store conn.new) → (state S.Store conn.old).now.schema ≡ entry_schema
@@ -321,12 +321,12 @@ pub fn each<S: Alter, K: Stable + Lossless, V: Stable + Lossless>(
         → Keeps (state S.Store conn.old) (state S.Store conn.new) }
     ensures clean { HasCleanDisk (state S.Store conn.new) → HasCleanDisk (state S.Store conn.old) }
 {
-    let rows = texts::each(alloc, conn)?;
-    let mut each = Vec::new(alloc);
+    let rows = texts::all(alloc, conn)?;
+    let mut listed = Vec::new(alloc);
     for row in rows.iter() {
         let key: K = value_of(alloc, row.0.as_str())?;
         let value: V = value_of(alloc, row.1.as_str())?;
-        each.push((key, value))?;
+        listed.push((key, value))?;
     }
-    Ok(each)
+    Ok(listed)
 }

@@ -61,8 +61,8 @@ fn removes<S: Alter>(conn: &mut Connection<S>, key: &str) -> Result<bool, Error>
 
 // Returns whether there are as many rows, in `len` and in both calls that give all.
 fn count<S: Alter>(alloc: Global, conn: &mut Connection<S>, wanted: usize) -> Result<bool, Error> {
-    let rows = texts::each(alloc, conn)?.len();
-    let numbers: Vec<(String, u64)> = values::each(alloc, conn)?;
+    let rows = texts::all(alloc, conn)?.len();
+    let numbers: Vec<(String, u64)> = values::all(alloc, conn)?;
     let len = texts::len(conn)?;
     Ok((rows == wanted) & (numbers.len() == wanted) & (len == u64::try_from(wanted).unwrap_or(0)))
 }

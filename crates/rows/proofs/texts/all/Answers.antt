@@ -6,12 +6,12 @@ use Rattle.rows.proofs.Lists.{read_all}
 use Rattle.rows.proofs.Each.{shown, shows_each, each_same}
 use Rattle.rows.specs.Entries.{each_text}
 use Rattle.rows.proofs.Serving.{aborts_keeps, aborts_serving, listed, query_aborts, on_err}
-use Rattle.rows.proofs.texts.each.Goals as goal
+use Rattle.rows.proofs.texts.all.Goals as goal
 
-pub returns-clause-each : goal.returns-clause-each
-returns-clause-each g c clean has =
+pub returns-clause-rows : goal.returns-clause-rows
+returns-clause-rows g c clean has =
     let rows = c.in_ok-rows.rows.items in
-    let entries = map texts_of c.loop-row.each.items in
+    let entries = map texts_of c.loop-row.listed.items in
     let seen = c.deref-row-items.result.now in
     let end : length seen ≤ c.loop-row.row-index = search rules in
     let read = read_all shown rows seen c.loop-row.row-index
