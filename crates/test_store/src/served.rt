@@ -285,8 +285,6 @@ fn has_lists<S: Alter + Drop>(rt: &HostRuntime, conn: Connection<S>) -> Result<b
     Ok(right)
 }
 
-// A database is dropped at each exit of a function that has it, and to show that for a type of sqlite's takes seconds: so
-// functions over any store have the exits.
 #[test]
 fn responses_are_those_of_a_map(rt: HostRuntime) -> Result<(), Fail> {
     last_put_is_shown::<String>();

@@ -10,8 +10,6 @@ use miniserde::value;
 use std::alloc::Global;
 use test_tables::{Wrong, expect_ok};
 
-// A value is dropped at each `?` behind it, and each drop of a document takes seconds of proof: so a function has few of both.
-
 /// Returns whether the copy of a document is written as expected.
 fn is_copied(alloc: Global, text: &str, expected: &str) -> Result<bool> {
     let value: Value = from_str(alloc, text)?;

@@ -10,7 +10,7 @@ use miniserde_value::json::number::Number;
 use std::alloc::Global;
 
 /// The place of a `Number`: the place of a leaf. It is a struct of its own, since the toolchain
-/// refuses `LeafPlace<Number>` as the place of `Number` (`docs/DECISIONS.md`).
+/// refuses `LeafPlace<Number>` as the place of `Number`.
 #[derive(Drop)]
 pub struct NumberPlace {
     place: LeafPlace<Number>,
