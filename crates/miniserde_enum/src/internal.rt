@@ -1,4 +1,5 @@
 //! Reads internally tagged enums: objects in which one member, the tag, names the variant.
+//! An `Event` is a token that begins a value, a `Step` an event of a value.
 ghost use Rattle.std.specs.Prelude.{◌≡◌, true, None, Err, IfOk, length};
 ghost use Rattle.miniserde_text.specs.Lexer.{event_of_token};
 ghost use Rattle.miniserde_model.specs.Step as step;

@@ -1,4 +1,5 @@
 //! Reads externally tagged enums: the name of a variant alone, or an object of one member.
+//! An `Event` is a token that begins a value, a `Step` an event of a value.
 ghost use Rattle.std.specs.Prelude.{◌≡◌, None, Err, IfOk, map};
 ghost use Rattle.miniserde_text.specs.Lexer.{event_of_token, text_of};
 ghost use Rattle.miniserde_model.specs.Step as step;

@@ -1,4 +1,5 @@
 //! The type `TagName`, the value of a tag.
+//! An `Event` is a token that begins a value, a `Step` an event of a value.
 ghost use Rattle.std.specs.Prelude.{◌≡◌, true, refl, map, option_map};
 ghost use Rattle.miniserde_enum.specs.TagName.{name_among, tag_name_meaning};
 

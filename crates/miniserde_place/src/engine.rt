@@ -1,4 +1,5 @@
 //! The engine: it reads a value from a source by its place, without recursion.
+//! An `Event` is a token that begins a value, a `Step` an event of a value.
 ghost use Rattle.std.specs.Prelude.{◌≡◌, ◌<◌, ◌≤◌, ◌⊎◌, false, Some, None, Ok, Err, List, ℕ, length, IfOk, IfErr, is_some};
 ghost use Rattle.miniserde_model.specs.Tree.{Tree};
 ghost use Rattle.miniserde_model.specs.Step.{events};

@@ -1,5 +1,6 @@
 //! The trait `FromJson` of types that read themselves from a JSON text. Its modules have the implementations for
 //! std's types.
+//! An `Event` is a token that begins a value, a `Step` an event of a value.
 ghost use Rattle.std.specs.Prelude.{◌≡◌, Bool, true, false, Option, None, Err, IfOk, IfErr, ⊤};
 ghost use Rattle.miniserde_model.specs.Step as step;
 ghost use Rattle.miniserde_text.specs.Lexer.{event_of_token};

@@ -1,4 +1,5 @@
 //! The trait of types whose values are single tokens.
+//! An `Event` is a token that begins a value, a `Step` an event of a value.
 ghost use Rattle.std.specs.Prelude.{◌≡◌, Bool, true, false, None, Some, Err, IfOk, IfErr, ⊤};
 ghost use Rattle.miniserde_model.specs.Step as step;
 ghost use Rattle.miniserde_text.specs.Lexer.{event_of_token};

@@ -1,4 +1,5 @@
 //! The trait `Checked` of newtypes with a check, how one is read, and how a value is read that is written as a string.
+//! An `Event` is a token that begins a value, a `Step` an event of a value.
 ghost use Rattle.std.specs.Prelude.{◌≡◌, ◌↔◌, Bool, true, Some, None, Ok, Err, IfOk, IfErr, IfSome, IsSome};
 ghost use Rattle.miniserde_text.specs.Lexer.{event_of_token};
 ghost use Rattle.miniserde_model.specs.declared.error.Error.{Error};

@@ -1,4 +1,5 @@
 //! The source: the rest of a text, from which a type reads itself.
+//! An `Event` is a token that begins a value, a `Step` an event of a value.
 ghost use Rattle.std.specs.Prelude.{◌≡◌, Bool, List, ℕ, None, Some, Ok, Err, IfOk, IfErr, IfSome};
 ghost use Rattle.std.specs.Cow.{cow_str_bytes};
 ghost use Rattle.std.specs.String.{string_bytes};

@@ -3,6 +3,7 @@
 //!
 //! `start` takes the first token of a value, `after` the punctuation after a child of a container or after its
 //! opening bracket, `name` a member's name with its colon. `end` checks that the text ends.
+//! An `Event` is a token that begins a value, a `Step` an event of a value.
 ghost use Rattle.std.specs.Prelude.{◌≡◌, ◌≤◌, length, List, ℕ, Bool, true, None, Some, Err, IfOk, IfErr, IfSome};
 ghost use Rattle.std.specs.String.{string_bytes};
 ghost use Rattle.miniserde_model.specs.Whitespace.{IsWhitespace};

@@ -1,5 +1,6 @@
 //! Reads `Number`, `Value`, `Array`, `Object` and `Unique` from a text, at any depth and without recursion. `Ranged`
 //! asks nothing of them: `real` holds of each of their values.
+//! An `Event` is a token that begins a value, a `Step` an event of a value.
 ghost use Rattle.std.specs.Prelude.{⊤};
 
 use super::array::Array;

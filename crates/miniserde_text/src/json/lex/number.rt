@@ -1,4 +1,5 @@
 //! Takes numbers from a text, and returns the token of each.
+//! An `Event` is a token that begins a value, a `Step` an event of a value.
 ghost use Rattle.std.specs.Prelude.{◌≡◌, ◌<◌, ◌≤◌, ◌^◌, [], None, Some, List, ℕ, length, take, drop};
 ghost use Rattle.std.specs.Prelude.{option_map, nat_lt, slice_index, if◌then◌else◌, IfSome, IfNone};
 ghost use Rattle.std.specs.List.{AllByRecursion, prefix_len};

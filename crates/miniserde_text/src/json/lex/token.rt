@@ -1,4 +1,5 @@
 //! Takes the first token of a value, or the name of a member.
+//! An `Event` is a token that begins a value, a `Step` an event of a value.
 ghost use Rattle.std.specs.Prelude.{◌≡◌, ◌-◌, ◌<◌, ◌≤◌, [], drop, length, ℕ, List, true, Err, IfOk, IfSome};
 ghost use Rattle.std.specs.Prelude.{option_map, slice_index};
 ghost use Rattle.std.specs.String.{string_bytes};
