@@ -56,6 +56,7 @@ impl<T: StdInteger> Ranged for T {
     ghost real = { T.in_range };
 
     fn ranged(&self) {
+        // For its clause `in_range`.
         let _wide = self.widen();
     }
 }

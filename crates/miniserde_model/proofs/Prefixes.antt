@@ -25,7 +25,7 @@ AtEnd x = StopsAt goes_on x
 abbrev pub Closes : ℕ → List ℕ → Type 0
 Closes z x = (rest : List ℕ) × (x ≡ z ∷ rest)
 
--- P's texts begin with no space, and not with z
+-- P's texts begin with no space
 pub record Heads (P : List ℕ → Type 0) : Type 0 where
   pub no_space : (b rest : List ℕ) → P b → StopsAt is_space (b ++ rest)
 

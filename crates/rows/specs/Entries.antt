@@ -130,7 +130,8 @@ Holds db key body = (row : Row) × Has (db.trees 0) row × (key_of row ≡ Words
 abbrev pub HasKey : Database → List ℕ → Type 0
 HasKey db key = (row : Row) × Has (db.trees 0) row × (key_of row ≡ Words key)
 
--- the database has the table alone, and the rowids of its rows are integers and increase
+-- The database has the table alone, whose rows are `trees 0` (`tree` of `entry`). Their rowids are integers (`keyed`), and
+-- increase (`rising`).
 pub record IsStore (db : Database) : Type 0 where
   pub schema : db.schema ≡ entry_schema
   pub keyed : AllByRecursion (λ row. is_int (rowid row) ≡ true) (db.trees 0)
