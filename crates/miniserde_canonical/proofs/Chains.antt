@@ -98,39 +98,45 @@ chain_more (n ∷ ns) (e ∷ es) ms gs at k bs hs last more inner h =
 chain_more [] (e ∷ es) ms gs at k bs hs last more inner h = absurd h
 chain_more (n ∷ ns) [] ms gs at k bs hs last more inner h = absurd h
 
+-- the member n stands for the entry e, and begins after the bytes bs and a comma, and after the splices hs, whose
+-- indices begin at `at` and k
+pub record BeginsBehind (n : Member) (e : Entry) (at k : ℕ) (bs : List ℕ) (hs : List Splice) : Type 0 where
+  pub name : name_of n.name ≡ e.name
+  pub first : n.first ≡ e.first
+  pub bytes : n.point.bytes ≡ at + length (bs ++ comma_before e.first)
+  pub splices : n.point.splices ≡ k + length hs
+
 -- one more member
 pub chain_begin : (ns : List Member) (es : List Entry) (ms : List ℕ) (gs : List Splice) (at k : ℕ) (bs : List ℕ)
     (hs : List Splice) (last : List ℕ) (n : Member) (e : Entry) → Chain ns es ms gs at k bs hs last → e.earlier_text ≡ last
-    → name_of n.name ≡ e.name → n.first ≡ e.first → n.point.bytes ≡ at + length (bs ++ comma_before e.first)
-    → n.point.splices ≡ k + length hs → Chain (ns ++ n ∷ []) (es ++ e ∷ []) ms gs at k (bs ++ comma_before e.first)
-    hs []
-chain_begin [] [] ms gs at k bs hs last n e h t m w p q = record {
+    → BeginsBehind n e at k bs hs → Chain (ns ++ n ∷ []) (es ++ e ∷ []) ms gs at k (bs ++ comma_before e.first) hs []
+chain_begin [] [] ms gs at k bs hs last n e h t b = record {
   before = bs;
   behind = [];
   splices_before = hs;
   splices_behind = [];
   bytes = ap (λ z. bs ++ z) (sym (append-nil (comma_before e.first)));
   splices = sym (append-nil hs);
-  name = m;
-  first = w;
-  begins = p;
-  begins_splices = q;
+  name = b.name;
+  first = b.first;
+  begins = b.bytes;
+  begins_splices = b.splices;
   is_before = subst (λ z. Holds ms gs at bs hs z) (sym t) h;
   is_behind = none;
 }
-chain_begin (m ∷ ns) (f ∷ es) ms gs at k bs hs last n e h t i w p q =
+chain_begin (m ∷ ns) (f ∷ es) ms gs at k bs hs last n e h t b =
     let x = comma_before e.first in
     let far = seam_end m f at k bs hs h in
     let here : n.point.bytes ≡ m.point.bytes + length (h.behind ++ x) =
-    omega (arith, p, far.0, length-append bs x, length-append h.behind x) in
-    let rest = chain_begin ns es ms gs m.point.bytes m.point.splices h.behind h.splices_behind last n e h.is_behind t i w
-    here (omega (arith, q, far.1)) in
+    omega (arith, b.bytes, far.0, length-append bs x, length-append h.behind x) in
+    let rest = chain_begin ns es ms gs m.point.bytes m.point.splices h.behind h.splices_behind last n e h.is_behind t
+    (record { name = b.name; first = b.first; bytes = here; splices = omega (arith, b.splices, far.1) }) in
     subst (λ z. Chain (m ∷ (ns ++ n ∷ [])) (f ∷ (es ++ e ∷ [])) ms gs at k (bs ++ x) z []) (append-nil hs)
     (seam_more m f at k bs hs x [] h
     (subst (λ z. Chain (ns ++ n ∷ []) (es ++ e ∷ []) ms gs m.point.bytes m.point.splices (h.behind ++ x) z [])
     (sym (append-nil h.splices_behind)) rest))
-chain_begin [] (f ∷ es) ms gs at k bs hs last n e h t i w p q = absurd h
-chain_begin (m ∷ ns) [] ms gs at k bs hs last n e h t i w p q = absurd h
+chain_begin [] (f ∷ es) ms gs at k bs hs last n e h t b = absurd h
+chain_begin (m ∷ ns) [] ms gs at k bs hs last n e h t b = absurd h
 
 -- the text of all
 pub chain_whole : (ns : List Member) (es : List Entry) (ms : List ℕ) (gs : List Splice) (at k : ℕ) (bs : List ℕ)

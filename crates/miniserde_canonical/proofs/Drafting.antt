@@ -5,42 +5,54 @@ use Rattle.std.proofs.Common.{take, drop, refl, sym, ap, ap₂, subst, ◌∙◌
 use Rattle.std.proofs.Common.{length-append}
 use Rattle.std.proofs.Math.Seq.{take-append_seam}
 use Rattle.std.proofs.lemmas.List.{take-append-drop, length-take-le, length-drop, drop_all, take_all}
+use Rattle.miniserde_model.specs.Compact.{string_text}
 use Rattle.miniserde_model.specs.Normal.{norm_members, Rise}
+use Rattle.miniserde_canonical.specs.CanonicalToken.{name, object}
 use Rattle.miniserde_canonical.specs.declared.member.Member.{Member}
 use Rattle.miniserde_canonical.specs.declared.draft.Draft.{Draft}
 use Rattle.miniserde_canonical.specs.private.Spreads.{Holds, none, SplicesInOrder}
-use Rattle.miniserde_canonical.specs.private.Names.{name_of}
 use Rattle.miniserde_canonical.specs.private.Members.{NamesRise}
 use Rattle.miniserde_canonical.specs.private.Arranging.{comma_before, Entry, State, start, entry_members}
 use Rattle.miniserde_canonical.specs.private.Arranging.{members_text, entries_text, once_each, Adds, Sorted}
-use Rattle.miniserde_canonical.specs.private.Arranging.{Arranged, Closes}
+use Rattle.miniserde_canonical.specs.private.Arranging.{Arranged, Closes, TokenStep}
 use Rattle.miniserde_canonical.specs.private.Sorting.{Chain, SortsMembers}
 use Rattle.miniserde_canonical.specs.private.Drafts.{Wrote, Holding, Represents, ChangesOnlyText}
 use Rattle.miniserde_canonical.proofs.Spreads.{holds_plain, holds_behind}
-use Rattle.miniserde_canonical.proofs.Chains.{chain_lengths, chain_add, chain_more, chain_begin, chain_merge, chain_cut}
+use Rattle.miniserde_canonical.proofs.Chains.{BeginsBehind, chain_lengths, chain_add, chain_more, chain_begin}
+use Rattle.miniserde_canonical.proofs.Chains.{chain_merge, chain_cut}
 use Rattle.miniserde_canonical.proofs.Owning.{chain_agrees, cut_own}
-use Rattle.miniserde_canonical.proofs.Running.{wrote_on, rewound}
+use Rattle.miniserde_canonical.proofs.Running.{RunBegins, wrote_on, rewound}
 use Rattle.miniserde_canonical.proofs.MemberLists.{Agree, rise_all}
 
+-- the draft has no text, no groups, no members and no open objects, and found no duplicate name
+pub record EmptyDraft (d : Draft) : Type 0 where
+  pub bytes : d.out.bytes.items ≡ []
+  pub splices : d.out.splices.items ≡ []
+  pub groups : d.groups.bytes.items ≡ []
+  pub inner : d.groups.splices.items ≡ []
+  pub members : d.members.items ≡ []
+  pub opened : d.opened.items ≡ []
+  pub distinct : d.is_distinct ≡ true
+
 -- a draft without text, groups, members and open objects, with all input left, represents `start`
-pub draft_starts : (d : Draft) (input : List ℕ) → d.input.now ≡ input → d.left ≡ length input
-    → d.out.bytes.items ≡ [] → d.out.splices.items ≡ [] → d.groups.bytes.items ≡ [] → d.groups.splices.items ≡ []
-    → d.members.items ≡ [] → d.opened.items ≡ [] → d.is_distinct ≡ true → Represents d input start
-draft_starts d input i l a b e f m o t = record {
+pub draft_starts : {d : Draft} (input : List ℕ) → d.input.now ≡ input → d.left ≡ length input → EmptyDraft d
+    → Represents d input start
+draft_starts {d = d} input i l e = record {
   bytes = [];
-  wrote = record { front = []; run = []; input = i; left = l; text = append-nil d.out.bytes.items ∙ a };
+  wrote = record { front = []; run = []; input = i; left = l; text = append-nil d.out.bytes.items ∙ e.bytes };
   holding = record {
     chain = subst (λ z. Chain z [] d.groups.bytes.items d.groups.splices.items 0 0 [] d.out.splices.items [])
-        (sym m) (subst (λ z. Holds d.groups.bytes.items d.groups.splices.items 0 [] z []) (sym b) none);
-    good = subst (λ z. SplicesInOrder z d.out.splices.items) (sym f) (subst (λ z. SplicesInOrder [] z) (sym b) (tt, tt));
-    opened = o;
-    distinct = t;
+        (sym e.members) (subst (λ z. Holds d.groups.bytes.items d.groups.splices.items 0 [] z []) (sym e.splices) none);
+    good = subst (λ z. SplicesInOrder z d.out.splices.items) (sym e.inner)
+        (subst (λ z. SplicesInOrder [] z) (sym e.splices) (tt, tt));
+    opened = e.opened;
+    distinct = e.distinct;
   };
 }
 
 -- if only the text and the run of a draft change, it holds the same state
-pub keep_holding : (d d' : Draft) (bs : List ℕ) (s : State) → ChangesOnlyText d d' → Holding d bs s → Holding d' bs s
-keep_holding d d' bs s k h = record {
+pub keep_holding : {d d' : Draft} {bs : List ℕ} {s : State} → ChangesOnlyText d d' → Holding d bs s → Holding d' bs s
+keep_holding {d = d} {d' = d'} k h = record {
   chain = rw (k.members, k.groups, k.inner, k.splices) h.chain;
   good = subst (λ z. SplicesInOrder z d'.out.splices.items) (sym k.inner)
       (subst (λ z. SplicesInOrder d.groups.splices.items z) (sym k.splices) h.good);
@@ -61,57 +73,63 @@ chain_bytes d bs s x r =
     (holds_plain d.groups.bytes.items d.groups.splices.items (0 + length bs) x))
 
 -- if a draft holds s, and s' is s with the bytes x appended, it holds s' with x after its bytes
-pub holding_added : (d : Draft) (bs : List ℕ) (s s' : State) (x : List ℕ) → Adds x s s' → Holding d bs s → Holding d (bs ++ x) s'
-holding_added d bs s s' x a r = record {
+pub holding_added : {d : Draft} {bs : List ℕ} {s s' : State} (x : List ℕ) → Adds x s s' → Holding d bs s → Holding d (bs ++ x) s'
+holding_added {d = d} {bs = bs} {s = s} x a r = record {
   chain = rw (a.1, a.0) (chain_bytes d bs s x r);
   good = r.good;
   opened = r.opened ∙ sym a.2;
   distinct = r.distinct ∙ sym a.3;
 }
 
+-- From d to d' the splices, the groups and `is_distinct` stay; of the members and the open objects it says nothing.
+pub record KeepsGroups (d d' : Draft) : Type 0 where
+  pub splices : d'.out.splices.items ≡ d.out.splices.items
+  pub groups : d'.groups.bytes.items ≡ d.groups.bytes.items
+  pub inner : d'.groups.splices.items ≡ d.groups.splices.items
+  pub distinct : d'.is_distinct ≡ d.is_distinct
+
+still_good : {d d' : Draft} → KeepsGroups d d' → SplicesInOrder d.groups.splices.items d.out.splices.items
+    → SplicesInOrder d'.groups.splices.items d'.out.splices.items
+still_good {d = d} {d' = d'} k g = subst (λ z. SplicesInOrder z d'.out.splices.items) (sym k.inner)
+    (subst (λ z. SplicesInOrder d.groups.splices.items z) (sym k.splices) g)
+
 -- with `{` after its bytes and its number of members in `opened`, a draft holds the state with one more object
-pub holding_opened : (d d' : Draft) (bs : List ℕ) (s s' : State) (k : ℕ)
-    → d'.out.splices.items ≡ d.out.splices.items → d'.groups.bytes.items ≡ d.groups.bytes.items
-    → d'.groups.splices.items ≡ d.groups.splices.items → d'.members.items ≡ d.members.items
-    → d'.opened.items ≡ d.opened.items ++ k ∷ [] → k ≡ length d.members.items → d'.is_distinct ≡ d.is_distinct
-    → s'.last ≡ s.last ++ 123 ∷ [] → s'.entries ≡ s.entries → s'.opened ≡ s.opened ++ length s.entries ∷ []
-    → s'.distinct ≡ s.distinct → Holding d bs s → Holding d' (bs ++ 123 ∷ []) s'
-holding_opened d d' bs s s' k b e f m o n t la en op di r = record {
-  chain = rw (m, e, f, b, en, la) (chain_bytes d bs s (123 ∷ []) r);
-  good = subst (λ z. SplicesInOrder z d'.out.splices.items) (sym f) (subst (λ z. SplicesInOrder d.groups.splices.items z) (sym b) r.good);
+pub holding_opened : {d d' : Draft} {bs : List ℕ} {s s' : State} → KeepsGroups d d' → d'.members.items ≡ d.members.items
+    → d'.opened.items ≡ d.opened.items ++ length d.members.items ∷ [] → TokenStep object s s' → Holding d bs s
+    → Holding d' (bs ++ 123 ∷ []) s'
+holding_opened {d = d} {d' = d'} {bs = bs} {s = s} {s' = s'} k m o a r = record {
+  chain = rw (m, k.groups, k.inner, k.splices, a.1, a.0) (chain_bytes d bs s (123 ∷ []) r);
+  good = still_good k r.good;
   opened = o ∙ ap₂ (λ (x : List ℕ) (y : ℕ). x ++ y ∷ []) r.opened
-      (n ∙ chain_lengths d.members.items s.entries d.groups.bytes.items d.groups.splices.items 0 0 bs
-      d.out.splices.items s.last r.chain) ∙ sym op;
-  distinct = t ∙ r.distinct ∙ sym di;
+      (chain_lengths d.members.items s.entries d.groups.bytes.items d.groups.splices.items 0 0 bs
+      d.out.splices.items s.last r.chain) ∙ sym a.2;
+  distinct = k.distinct ∙ r.distinct ∙ sym a.3;
 }
 
--- a member begins, and x is put behind its begin
-pub holding_begun : (d d' : Draft) (bs : List ℕ) (s s' : State) (n : Member) (name x : List ℕ)
-    → d'.out.splices.items ≡ d.out.splices.items → d'.groups.bytes.items ≡ d.groups.bytes.items
-    → d'.groups.splices.items ≡ d.groups.splices.items → d'.members.items ≡ d.members.items ++ n ∷ []
-    → d'.opened.items ≡ d.opened.items → d'.is_distinct ≡ d.is_distinct → name_of n.name ≡ name → n.first ≡ s.first
-    → n.point.bytes ≡ length (bs ++ comma_before s.first) → n.point.splices ≡ length d.out.splices.items
-    → s'.entries ≡ s.entries ++ record { earlier_text = s.last; first = s.first; name = name } ∷ [] → s'.last ≡ x
-    → s'.opened ≡ s.opened → s'.distinct ≡ s.distinct → Holding d bs s
-    → Holding d' ((bs ++ comma_before s.first) ++ x) s'
-holding_begun d d' bs s s' n name x b e f m o t na fi pb ph en la op di r =
+-- a member begins, and its name and a colon are put behind its begin
+pub holding_begun : {d d' : Draft} {bs : List ℕ} {s s' : State} (n : Member) (x : List ℕ) → KeepsGroups d d'
+    → d'.members.items ≡ d.members.items ++ n ∷ [] → d'.opened.items ≡ d.opened.items
+    → BeginsBehind n (record { earlier_text = s.last; first = s.first; name = x }) 0 0 bs d.out.splices.items
+    → TokenStep (name x) s s' → Holding d bs s
+    → Holding d' ((bs ++ comma_before s.first) ++ (string_text x ++ 58 ∷ [])) s'
+holding_begun {d = d} {d' = d'} {bs = bs} {s = s} {s' = s'} n name_text k m o begins a r =
     let ms = d.groups.bytes.items in
     let gs = d.groups.splices.items in
-    let y : Entry = record { earlier_text = s.last; first = s.first; name = name } in
+    let y : Entry = record { earlier_text = s.last; first = s.first; name = name_text } in
+    let x = string_text name_text ++ 58 ∷ [] in
     let cs = bs ++ comma_before s.first in
     let begun : Chain (d.members.items ++ n ∷ []) (s.entries ++ y ∷ []) ms gs 0 0 cs d.out.splices.items [] =
-    chain_begin d.members.items s.entries ms gs 0 0 bs d.out.splices.items s.last n y r.chain refl na fi
-    (omega (arith, pb)) (omega (arith, ph)) in
+    chain_begin d.members.items s.entries ms gs 0 0 bs d.out.splices.items s.last n y r.chain refl begins in
     let more : Chain (d.members.items ++ n ∷ []) (s.entries ++ y ∷ []) ms gs 0 0 (cs ++ x) d.out.splices.items x =
     subst (λ z. Chain (d.members.items ++ n ∷ []) (s.entries ++ y ∷ []) ms gs 0 0 (cs ++ x) z x)
     (append-nil d.out.splices.items)
     (chain_add (d.members.items ++ n ∷ []) (s.entries ++ y ∷ []) ms gs 0 0 (0 + length cs) cs x
     d.out.splices.items [] [] x begun refl (holds_plain ms gs (0 + length cs) x)) in
     record {
-      chain = rw (m, e, f, b, en, la) more;
-      good = subst (λ z. SplicesInOrder z d'.out.splices.items) (sym f) (subst (λ z. SplicesInOrder gs z) (sym b) r.good);
-      opened = o ∙ r.opened ∙ sym op;
-      distinct = t ∙ r.distinct ∙ sym di;
+      chain = rw (m, k.groups, k.inner, k.splices, a.0, a.1) more;
+      good = still_good k r.good;
+      opened = o ∙ r.opened ∙ sym a.2;
+      distinct = k.distinct ∙ r.distinct ∙ sym a.3;
     }
 
 -- ---- the end of an object
@@ -160,19 +178,17 @@ own_part f [] (e ∷ es) a = absurd a
 own_part f (n ∷ ns) [] a = absurd a
 
 -- if the names of a draft's members rise from the index f on, those of its state's entries do
-pub rises_behind : (d : Draft) (bs : List ℕ) (s : State) (f : ℕ) (ns : List Member) → ns ≡ drop f d.members.items
+pub rises_behind : {d : Draft} {bs : List ℕ} {s : State} (f : ℕ) (ns : List Member) → ns ≡ drop f d.members.items
     → NamesRise ns → Holding d bs s → Rise (entry_members (drop f s.entries) s.last)
-rises_behind d bs s f ns e h r =
+rises_behind {d = d} {bs = bs} {s = s} f ns e h r =
     rise_all (drop f d.members.items) (drop f s.entries) s.last
     (own_part f d.members.items s.entries
     (chain_agrees d.members.items s.entries d.groups.bytes.items d.groups.splices.items 0 0 bs d.out.splices.items
     s.last r.chain)) (subst NamesRise e h)
 
 -- the names rise
-pub holding_same : (d d' : Draft) (bs : List ℕ) (s : State) (f : ℕ) → f ≤ length d.members.items
-    → d'.out.splices.items ≡ d.out.splices.items → d'.groups.bytes.items ≡ d.groups.bytes.items
-    → d'.groups.splices.items ≡ d.groups.splices.items → d'.members.items ≡ take f d.members.items
-    → d'.is_distinct ≡ d.is_distinct → Holding d bs s
+pub holding_same : {d d' : Draft} {bs : List ℕ} {s : State} (f : ℕ) → f ≤ length d.members.items → KeepsGroups d d'
+    → d'.members.items ≡ take f d.members.items → Holding d bs s
     → Holding d' bs (record {
       entries = take f s.entries;
       last = entries_text (drop f s.entries) s.last;
@@ -181,18 +197,17 @@ pub holding_same : (d d' : Draft) (bs : List ℕ) (s : State) (f : ℕ) → f �
       first = s.first;
       distinct = s.distinct;
     })
-holding_same d d' bs s f l b e g m t r =
+holding_same {d = d} {d' = d'} {bs = bs} {s = s} f l k m r =
     let c : Chain (take f d.members.items) (take f s.entries) d.groups.bytes.items d.groups.splices.items 0 0 bs
     d.out.splices.items (entries_text (drop f s.entries) s.last) =
     chain_merge (take f d.members.items) (take f s.entries) (drop f d.members.items) (drop f s.entries)
     d.groups.bytes.items d.groups.splices.items 0 0 bs d.out.splices.items s.last (as_many d bs s f r l)
     (parted d bs s f r) in
     record {
-      chain = rw (m, e, g, b) c;
-      good = subst (λ z. SplicesInOrder z d'.out.splices.items) (sym g)
-          (subst (λ z. SplicesInOrder d.groups.splices.items z) (sym b) r.good);
+      chain = rw (m, k.groups, k.inner, k.splices) c;
+      good = still_good k r.good;
       opened = refl;
-      distinct = t ∙ r.distinct;
+      distinct = k.distinct ∙ r.distinct;
     }
 
 -- the members were put in order
@@ -203,20 +218,32 @@ pub record PutInOrder (d d' : Draft) (s : State) (f : ℕ) : Type 0 where
   pub entries : state.entries ≡ take f s.entries
   pub sorted : Sorted (drop f s.entries) s state
 
-ordered_at : (d d' : Draft) (s : State) (f : ℕ) (b : Bool) (n : Member) (ns : List Member) (e : Entry)
-    (es : List Entry) → length (take f d.members.items) ≡ length (take f s.entries)
-    → SplicesInOrder d.groups.splices.items d.out.splices.items → d.is_distinct ≡ s.distinct
-    → Chain (take f d.members.items ++ n ∷ ns) (take f s.entries ++ e ∷ es) d.groups.bytes.items
-    d.groups.splices.items 0 0 d.out.bytes.items d.out.splices.items s.last
-    → SortsMembers (n ∷ ns) d.out d'.out d.groups d'.groups b → d'.members.items ≡ take f d.members.items
-    → d'.is_distinct ≡ (d.is_distinct && b) → drop f s.entries ≡ e ∷ es → PutInOrder d d' s f
-ordered_at d d' s f b n ns e es same good di chain st m t is =
+-- From d to d' the members ns, which are those of d from the index f on, were sorted and removed.
+pub record SortedFrom (d d' : Draft) (f : ℕ) (ns : List Member) : Type 0 where
+  pub all : ns ≡ drop f d.members.items
+  pub is_distinct : Bool
+  pub sorts : SortsMembers ns d.out d'.out d.groups d'.groups is_distinct
+  pub members : d'.members.items ≡ take f d.members.items
+  pub distinct : d'.is_distinct ≡ (d.is_distinct && is_distinct)
+
+ordered_at : {d d' : Draft} {s : State} {f : ℕ} {n : Member} {ns : List Member} (e : Entry) (es : List Entry)
+    → f ≤ length d.members.items → SortedFrom d d' f (n ∷ ns) → Holding d d.out.bytes.items s
+    → drop f s.entries ≡ e ∷ es → PutInOrder d d' s f
+ordered_at {d = d} {d' = d'} {s = s} {f = f} {n = n} {ns = ns} e es l o h is =
+    let same = as_many d d.out.bytes.items s f h l in
+    let chain : Chain (take f d.members.items ++ n ∷ ns) (take f s.entries ++ e ∷ es) d.groups.bytes.items
+    d.groups.splices.items 0 0 d.out.bytes.items d.out.splices.items s.last =
+    subst (λ z. Chain (take f d.members.items ++ z) (take f s.entries ++ e ∷ es) d.groups.bytes.items
+    d.groups.splices.items 0 0 d.out.bytes.items d.out.splices.items s.last) (sym o.all)
+    (subst (λ z. Chain (take f d.members.items ++ drop f d.members.items) (take f s.entries ++ z)
+    d.groups.bytes.items d.groups.splices.items 0 0 d.out.bytes.items d.out.splices.items s.last) is
+    (parted d d.out.bytes.items s f h)) in
     let ms = d.groups.bytes.items in
     let gs = d.groups.splices.items in
     let c = chain_cut (take f d.members.items) (take f s.entries) n e ns es ms gs 0 0 d.out.bytes.items
     d.out.splices.items s.last same chain in
     let own = cut_own (take f d.members.items) (take f s.entries) n e ns es ms gs d.out.bytes.items d.out.splices.items s.last c in
-    let r = st (e ∷ es) s.last own in
+    let r = o.sorts (e ∷ es) s.last own in
     let p = r.0 in
     let x = members_text true (norm_members (entry_members (e ∷ es) s.last)) in
     let here : n.point.bytes ≡ length (c.before ++ comma_before e.first) = omega (arith, c.begins) in
@@ -257,10 +284,10 @@ ordered_at d d' s f b n ns e es same good di chain st m t is =
         distinct = s.distinct && once_each (entry_members (e ∷ es) s.last);
       };
       holding = record {
-        chain = rw (m, out_bytes, out_splices) new;
-        good = p.stay_in_order good;
+        chain = rw (o.members, out_bytes, out_splices) new;
+        good = p.stay_in_order h.good;
         opened = refl;
-        distinct = t ∙ ap₂ (λ (y z : Bool). y && z) di r.1;
+        distinct = o.distinct ∙ ap₂ (λ (y z : Bool). y && z) h.distinct r.1;
       };
       opened = refl;
       entries = refl;
@@ -268,34 +295,29 @@ ordered_at d d' s f b n ns e es same good di chain st m t is =
     }
 
 -- a draft whose members from the index f on were sorted and removed holds a state with these entries sorted
-pub holding_sorted : (d d' : Draft) (s : State) (f : ℕ) (b : Bool) (ns : List Member) → f ≤ length d.members.items
-    → ns ≡ drop f d.members.items → 0 < length ns → SortsMembers ns d.out d'.out d.groups d'.groups b
-    → d'.members.items ≡ take f d.members.items → d'.is_distinct ≡ (d.is_distinct && b)
-    → Holding d d.out.bytes.items s → PutInOrder d d' s f
-holding_sorted d d' s f b ns l e some st m t r = go ns (drop f s.entries) e refl some st
+pub holding_sorted : {d d' : Draft} {s : State} {f : ℕ} {ns : List Member} → f ≤ length d.members.items → 0 < length ns
+    → SortedFrom d d' f ns → Holding d d.out.bytes.items s → PutInOrder d d' s f
+holding_sorted {d = d} {d' = d'} {s = s} {f = f} {ns = ns} l some o r = go ns (drop f s.entries) refl some o
   where
-    go : (ns : List Member) (es : List Entry) → ns ≡ drop f d.members.items → drop f s.entries ≡ es → 0 < length ns
-        → SortsMembers ns d.out d'.out d.groups d'.groups b → PutInOrder d d' s f
-    go [] es e h some st = absurd (omega (arith, some))
-    go (n ∷ ns) [] e h some st =
+    go : (ns : List Member) (es : List Entry) → drop f s.entries ≡ es → 0 < length ns → SortedFrom d d' f ns
+        → PutInOrder d d' s f
+    go [] es h some o = absurd (omega (arith, some))
+    go (n ∷ ns) [] h some o =
         let same = chain_lengths d.members.items s.entries d.groups.bytes.items d.groups.splices.items 0 0
         d.out.bytes.items d.out.splices.items s.last r.chain in
-        absurd (omega (arith, ap length e, length-drop f d.members.items, ap length h, length-drop f s.entries, same))
-    go (n ∷ ns) (x ∷ es) e h some st =
-        ordered_at d d' s f b n ns x es (as_many d d.out.bytes.items s f r l) r.good r.distinct
-        (subst (λ z. Chain (take f d.members.items ++ z) (take f s.entries ++ x ∷ es) d.groups.bytes.items
-        d.groups.splices.items 0 0 d.out.bytes.items d.out.splices.items s.last) (sym e)
-        (subst (λ z. Chain (take f d.members.items ++ drop f d.members.items) (take f s.entries ++ z)
-        d.groups.bytes.items d.groups.splices.items 0 0 d.out.bytes.items d.out.splices.items s.last) h
-        (parted d d.out.bytes.items s f r))) st m t h
+        absurd (omega (arith, ap length o.all, length-drop f d.members.items, ap length h, length-drop f s.entries, same))
+    go (n ∷ ns) (x ∷ es) h some o = ordered_at x es l o r h
 
 -- ---- calls
 
+-- no object is open in the state s that has its members among the entries
+abbrev pub NoneToClose : State → Type 0
+NoneToClose s = (os : List ℕ) (f : ℕ) → s.opened ≡ os ++ f ∷ [] → f ≤ length s.entries → ⊥
+
 -- if a draft has fewer members than come before its innermost object, its state has too few entries, too
-pub too_few : (d : Draft) (bs : List ℕ) (s : State) (os : List ℕ) (before : ℕ) → Holding d bs s
-    → d.opened.items ≡ os ++ before ∷ [] → length d.members.items < before → (ps : List ℕ) (f : ℕ)
-    → s.opened ≡ ps ++ f ∷ [] → f ≤ length s.entries → ⊥
-too_few d bs s os before r e l ps f h i =
+pub too_few : {d : Draft} {bs : List ℕ} {s : State} (os : List ℕ) (before : ℕ) → Holding d bs s
+    → d.opened.items ≡ os ++ before ∷ [] → length d.members.items < before → NoneToClose s
+too_few {d = d} {bs = bs} {s = s} os before r e l = λ ps f h i.
     let same = snoc_same os ps before f (sym e ∙ r.opened ∙ h) in
     let many = chain_lengths d.members.items s.entries d.groups.bytes.items d.groups.splices.items 0 0 bs
     d.out.splices.items s.last r.chain in
@@ -306,25 +328,24 @@ pub behind : (xs ys : List Member) (f : ℕ) → ys ≡ xs → take (length ys -
 behind xs ys f e = take_all (length ys - f) (drop f ys) (omega (arith, length-drop f ys)) ∙ ap (drop f) e
 
 -- if a draft d is flushed up to a part of the input, which gives e, and the bytes x are appended in place of the part,
--- it represents a state with x appended
-pub rewritten : (d e d' : Draft) (rest part rest' : List ℕ) (s s' : State) (x : List ℕ) → Adds x s s' → (r : Represents d rest s)
-    → Wrote e rest r.bytes × (e.out.bytes.items ≡ r.bytes) → ChangesOnlyText d e → ChangesOnlyText e d'
-    → rest ≡ part ++ rest' → d'.input.now ≡ e.input.now → d'.left ≡ length rest'
-    → d'.out.bytes.items ≡ e.out.bytes.items ++ x → Represents d' rest' s'
-rewritten d e d' rest part rest' s s' x a r q k l p i n o = record {
+-- which gives d', then d' represents a state with x appended
+pub rewritten : {d e d' : Draft} {rest rest' : List ℕ} {s s' : State} (part x : List ℕ) → Adds x s s'
+    → (r : Represents d rest s) → Wrote e rest r.bytes → ChangesOnlyText d d' → rest ≡ part ++ rest'
+    → RunBegins e d' rest' (r.bytes ++ x) → Represents d' rest' s'
+rewritten part x a r w k p b = record {
   bytes = r.bytes ++ x;
-  wrote = rewound e d' rest part rest' r.bytes (r.bytes ++ x) q.0 p i n (o ∙ ap (λ z. z ++ x) q.1);
-  holding = holding_added d' r.bytes s s' x a (keep_holding e d' r.bytes s l (keep_holding d e r.bytes s k r.holding));
+  wrote = rewound part w p b;
+  holding = holding_added x a (keep_holding k r.holding);
 }
 
 -- if the next part of the input is what the state gains, the draft stays as it is: the part joins what was read and not
 -- yet copied
-pub stays : (d : Draft) (rest part rest' : List ℕ) (s s' : State) → Adds part s s' → Represents d rest s
+pub stays : {d : Draft} {rest : List ℕ} {s s' : State} (part rest' : List ℕ) → Adds part s s' → Represents d rest s
     → rest ≡ part ++ rest' → Represents d rest' s'
-stays d rest part rest' s s' a r e = record {
+stays part rest' a r e = record {
   bytes = r.bytes ++ part;
-  wrote = wrote_on d rest part rest' r.bytes r.wrote e;
-  holding = holding_added d r.bytes s s' part a r.holding;
+  wrote = wrote_on part rest' r.wrote e;
+  holding = holding_added part a r.holding;
 }
 
 -- ---- the end of a text

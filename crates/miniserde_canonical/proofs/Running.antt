@@ -24,8 +24,8 @@ use Rattle.miniserde_canonical.specs.private.Drafts.{Wrote}
 use Rattle.miniserde_canonical.proofs.Spreads.{between_mid}
 
 -- the run goes on
-pub wrote_on : (d : Draft) (rest part rest' bs : List ℕ) → Wrote d rest bs → rest ≡ part ++ rest' → Wrote d rest' (bs ++ part)
-wrote_on d rest part rest' bs w e =
+pub wrote_on : {d : Draft} {rest bs : List ℕ} (part rest' : List ℕ) → Wrote d rest bs → rest ≡ part ++ rest' → Wrote d rest' (bs ++ part)
+wrote_on {d = d} {rest = rest} part rest' w e =
     let more : w.run ++ rest ≡ (w.run ++ part) ++ rest' = ap (λ z. w.run ++ z) e ∙ sym (append_assoc w.run part rest') in
     record {
       front = w.front;
@@ -35,34 +35,51 @@ wrote_on d rest part rest' bs w e =
       text = sym (append_assoc d.out.bytes.items w.run part) ∙ ap (λ z. z ++ part) w.text;
     }
 
--- a new run begins where rest' is left
-pub rewound : (d d' : Draft) (rest w rest' bs y : List ℕ) → Wrote d rest bs → rest ≡ w ++ rest'
-    → d'.input.now ≡ d.input.now → d'.left ≡ length rest' → d'.out.bytes.items ≡ y → Wrote d' rest' y
-rewound d d' rest w rest' bs y t e i l o = record {
+-- d' has the input of d and the text `text`, and its run begins where `rest` is left
+pub record RunBegins (d d' : Draft) (rest text : List ℕ) : Type 0 where
+  pub input : d'.input.now ≡ d.input.now
+  pub left : d'.left ≡ length rest
+  pub text_is : d'.out.bytes.items ≡ text
+
+-- a new run begins after the part w
+pub rewound : {d d' : Draft} {rest rest' bs text : List ℕ} (w : List ℕ) → Wrote d rest bs → rest ≡ w ++ rest'
+    → RunBegins d d' rest' text → Wrote d' rest' text
+rewound {d' = d'} {rest' = rest'} w t e b = record {
   front = t.front ++ (t.run ++ w);
   run = [];
-  input = i ∙ t.input ∙ ap (λ z. t.front ++ (t.run ++ z)) e ∙ rejoin t.front t.run w rest';
-  left = l;
-  text = append-nil d'.out.bytes.items ∙ o;
+  input = b.input ∙ t.input ∙ ap (λ z. t.front ++ (t.run ++ z)) e ∙ rejoin t.front t.run w rest';
+  left = b.left;
+  text = append-nil d'.out.bytes.items ∙ b.text_is;
 }
   where
     rejoin : (a b c x : List ℕ) → a ++ (b ++ (c ++ x)) ≡ (a ++ (b ++ c)) ++ x
     rejoin a b c x = simp append_assoc refl
 
--- after the run up to the last l bytes of input is appended, the text is bs, and a new run begins there
-pub flushed : (d d' : Draft) (l all a b : ℕ) (piece text : List ℕ) → a ≡ all - d.left → b ≡ all - l
-    → d'.input.now ≡ d.input.now → d'.left ≡ l → d'.out.bytes.items ≡ d.out.bytes.items ++ piece
-    → text ≡ d.input.now → all ≡ length d.input.now → (a ≤ b → b ≤ length text → piece ≡ part_between a b text)
-    → (rest bs : List ℕ) → Wrote d rest bs → l ≡ length rest → Wrote d' rest bs × (d'.out.bytes.items ≡ bs)
-flushed d d' l all a b piece text ea eb i dl o t an f = λ rest bs w e.
+-- From d to d' the bytes of the input from d's run up to that of d' were appended to the text: those from the index
+-- `from` up to the index `to`.
+pub record Flushes (d d' : Draft) : Type 0 where
+  pub piece : List ℕ
+  pub from : ℕ
+  pub to : ℕ
+  pub from_is : from ≡ length d.input.now - d.left
+  pub to_is : to ≡ length d.input.now - d'.left
+  pub is_part : from ≤ to → to ≤ length d.input.now → piece ≡ part_between from to d.input.now
+  pub appended : d'.out.bytes.items ≡ d.out.bytes.items ++ piece
+  pub input : d'.input.now ≡ d.input.now
+
+-- after the run up to the `rest` of the input is appended, the text is bs, and a new run begins there
+pub flushed : {d d' : Draft} → Flushes d d' → (rest bs : List ℕ) → Wrote d rest bs → d'.left ≡ length rest
+    → Wrote d' rest bs × (d'.out.bytes.items ≡ bs)
+flushed {d = d} {d' = d'} f = λ rest bs w e.
     let long = ap length w.input ∙ length-append w.front (w.run ++ rest) in
     let tail = length-append w.run rest in
-    let from : a ≡ length w.front = omega (arith, ea, an, long, w.left) in
-    let to : b ≡ a + length w.run = omega (arith, ea, eb, an, long, w.left, tail, e) in
-    let within : b ≤ length text = omega (arith, eb, an, ap length t) in
-    let is : piece ≡ w.run = f (omega (arith, to)) within ∙ between_mid a b text w.front w.run rest (t ∙ w.input) from to in
-    let out : d'.out.bytes.items ≡ bs = o ∙ ap (λ z. d.out.bytes.items ++ z) is ∙ w.text in
-    (rewound d d' rest [] rest bs bs w refl i (dl ∙ e) out, out)
+    let from : f.from ≡ length w.front = omega (arith, f.from_is, long, w.left) in
+    let to : f.to ≡ f.from + length w.run = omega (arith, f.from_is, f.to_is, long, w.left, tail, e) in
+    let within : f.to ≤ length d.input.now = omega (arith, f.to_is) in
+    let is : f.piece ≡ w.run = f.is_part (omega (arith, to)) within
+    ∙ between_mid f.from f.to d.input.now w.front w.run rest w.input from to in
+    let out : d'.out.bytes.items ≡ bs = f.appended ∙ ap (λ z. d.out.bytes.items ++ z) is ∙ w.text in
+    (rewound [] w refl (record { input = f.input; left = e; text_is = out }), out)
 
 -- ---- what stands in the input is what is written
 
@@ -86,9 +103,9 @@ as_it_is event.SeqStart scratch part s s' p n m o h = subst (λ z. Adds z s s') 
 as_it_is event.MapStart scratch part s s' p n m o h = absurd (o refl)
 
 -- where the run would end
-pub run_length : (d : Draft) (rest bs : List ℕ) (at point : ℕ) → Wrote d rest bs → at ≡ length rest
+pub run_length : {d : Draft} {rest bs : List ℕ} (at point : ℕ) → Wrote d rest bs → at ≡ length rest
     → point ≡ length d.out.bytes.items + (d.left - at) → point ≡ length bs
-run_length d rest bs at point w e f =
+run_length {d = d} {rest = rest} at point w e f =
     omega (arith, e, f, w.left, length-append w.run rest, ap length w.text, length-append d.out.bytes.items w.run)
 
 -- the step of a string that is borrowed appends its bytes in the input

@@ -81,7 +81,7 @@ recalled false s h = h
 -- whitespace changes nothing
 pub skipped : (d d' : Draft) (rest rest' : List ℕ) → ((bs : List ℕ) → Wrote d rest bs → Wrote d' rest' bs)
     → ChangesOnlyText d d' → (s : State) → Represents d rest s → Represents d' rest' s
-skipped d d' rest rest' f k s r = record { bytes = r.bytes; wrote = f r.bytes r.wrote; holding = keep_holding d d' r.bytes s k r.holding }
+skipped d d' rest rest' f k s r = record { bytes = r.bytes; wrote = f r.bytes r.wrote; holding = keep_holding k r.holding }
 
 -- a draft takes the beginning of an element if it leaves out whitespace; a comma before the element joins the run
 pub takes_element : (f : Bool) (rest mid rest' : List ℕ) (d d' : Draft)
@@ -100,7 +100,7 @@ takes_element f rest mid rest' d d' k e = λ s r h.
     let comma : mid ≡ comma_before s.first ++ rest' = e ∙ ap (λ z. comma_before z ++ rest') (sym (recalled f s h)) in (
       s',
       (s', a, refl),
-      stays d' mid (comma_before s.first) rest' s s' a (k s r) comma,
+      stays (comma_before s.first) rest' a (k s r) comma,
       tt,
     )
 
@@ -123,8 +123,8 @@ takes_name f n rest mid rest1 rest2 part rest' d d1 d2 d' k e w p g = λ s r h.
     let q = k s r in
     let i = recalled f s h in
     let comma : mid ≡ comma_before s.first ++ rest1 = e ∙ ap (λ z. comma_before z ++ rest1) (sym i) in
-    let wrote = w (q.bytes ++ comma_before s.first) (wrote_on d1 mid (comma_before s.first) rest1 q.bytes q.wrote comma) in
-    (s', (s', a, refl), g q.bytes s s' wrote (keep_holding d1 d2 q.bytes s p q.holding) i a, tt)
+    let wrote = w (q.bytes ++ comma_before s.first) (wrote_on (comma_before s.first) rest1 q.wrote comma) in
+    (s', (s', a, refl), g q.bytes s s' wrote (keep_holding p q.holding) i a, tt)
 
 -- the state behind a closing bracket
 abbrev ended : ℕ → State → State
@@ -136,7 +136,7 @@ pub takes_array_end : (m : Moment) (rest mid rest' : List ℕ) (d d' : Draft)
     → DraftTakes m rest (array_end ∷ []) after rest' d d'
 takes_array_end m rest mid rest' d d' k e = λ s r h.
     let t = ended 93 s in
-    (t, (t, ((refl, refl, refl, refl), refl), refl), stays d' mid (93 ∷ []) rest' s t (refl, refl, refl, refl) (k s r) e, refl)
+    (t, (t, ((refl, refl, refl, refl), refl), refl), stays (93 ∷ []) rest' (refl, refl, refl, refl) (k s r) e, refl)
 
 -- a draft takes the end of an object if it leaves out whitespace, and then closes the object; the bracket joins the run
 pub takes_object_end : (m : Moment) (rest mid rest' : List ℕ) (d d1 d' : Draft)
@@ -148,7 +148,7 @@ takes_object_end m rest mid rest' d d1 d' k e f = λ s r h.
     let t = ended 125 q.0 in (
       t,
       (t, (q.0, q.1, (refl, refl, refl, refl), refl), refl),
-      stays d' mid (125 ∷ []) rest' q.0 t (refl, refl, refl, refl) q.2 e,
+      stays (125 ∷ []) rest' (refl, refl, refl, refl) q.2 e,
       refl,
     )
 

@@ -1,6 +1,6 @@
 //! Fills the splices of a text with their groups.
 ghost use Rattle.std.specs.Prelude.{◌≡◌, ◌++◌, ◌+◌, ◌<◌, ℕ, List, IfOk, OnOk};
-ghost use Rattle.miniserde_canonical.specs.private.Spreads.{Holds, SplicesInOrder, Ordered};
+ghost use Rattle.miniserde_canonical.specs.private.Spreads.{FilledText, SplicesInOrder, Ordered};
 ghost use Rattle.miniserde_canonical.specs.private.Waiting.{SpanHolds, SpansHold, span_measure, spans_measure};
 
 use crate::spread::{Point, Span, SplicedText, part};
@@ -14,8 +14,7 @@ pub(crate) fn fill_splices(
     groups: &SplicedText,
 ) -> Result<Vec<u8>, AllocError>
     requires { SplicesInOrder groups.now.splices.items text.splices.items }
-    ensures { IfOk result (λ r. (x : List ℕ)
-        → Holds groups.now.bytes.items groups.now.splices.items 0 text.bytes.items text.splices.items x → r.items ≡ x) }
+    ensures { IfOk result (λ r. (x : List ℕ) → FilledText groups.now text x → r.items ≡ x) }
 {
     let splices = text.splices.as_slice();
     if splices.is_empty() {

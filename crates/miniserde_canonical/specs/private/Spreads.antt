@@ -2,6 +2,7 @@
 use Rattle.std.specs.Prelude.{◌≡◌, ◌≤◌, ◌-◌, ◌+◌, ℕ, suc, List, [], ◌∷◌, ◌++◌, length, take, drop, ⊤}
 use Rattle.miniserde_canonical.specs.declared.spread.Span.{Span}
 use Rattle.miniserde_canonical.specs.declared.spread.Splice.{Splice}
+use Rattle.miniserde_canonical.specs.declared.spread.SplicedText.{SplicedText}
 
 -- the part of the list from the index a up to the index b
 abbrev pub part_between : {X : Type 0} → ℕ → ℕ → List X → List X
@@ -33,6 +34,10 @@ pub data Holds : List ℕ → List Splice → ℕ → List ℕ → List Splice �
       → h.at ≡ at → Within h.group ms gs
       → Holds ms gs h.group.from.bytes (bytes_in h.group ms) (splices_in h.group gs) y → Holds ms gs at bs hs x
       → Holds ms gs at bs (h ∷ hs) (y ++ x)
+
+-- `text` is the text x once each of its splices is filled with its group
+abbrev pub FilledText : SplicedText → SplicedText → List ℕ → Type 0
+FilledText groups text x = Holds groups.bytes.items groups.splices.items 0 text.bytes.items text.splices.items x
 
 -- ---- groups in order
 

@@ -4,5 +4,4 @@ use Rattle.miniserde_canonical.proofs.Filling.{Left}
 use Rattle.miniserde_canonical.proofs.groups.fill_splices.Given as goal
 
 abbrev pub invariant-loop-splice : goal.invariant-loop-splice
-invariant-loop-splice l = Left l.groups.bytes.items l.groups.splices.items l.fn.text.bytes.items
-    l.fn.text.splices.items l.at (drop l.splice-index l.splices) l.out.items
+invariant-loop-splice l = Left l.groups l.fn.text l.at (drop l.splice-index l.splices) l.out.items

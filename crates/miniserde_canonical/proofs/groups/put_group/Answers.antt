@@ -1,15 +1,18 @@
 -- What is written, and what waits, are the text of the group.
-use Rattle.std.proofs.Common.{◌++◌, ◌∙◌, ap, option_to_list}
+use Rattle.std.proofs.Common.{◌++◌, ◌∙◌, refl, ap, option_to_list}
 use Rattle.miniserde_canonical.proofs.Filling.{group_begins, group_goes, group_less}
 use Rattle.miniserde_canonical.proofs.groups.put_group.Goals as goal
 
 pub loop-span-init : goal.loop-span-init
-loop-span-init c = group_begins _ _ c.args.group _ _ _ c.clear.ensures.items c.in_ok-push.ensures.items
+loop-span-init c = group_begins _ _ c.args.group _ c.clear.ensures.items c.in_ok-push.ensures.items
 
 pub loop-span-preserved : goal.loop-span-preserved
 loop-span-preserved c =
-    group_goes _ _ c.args.group c.in-Some.span _ _ _ _ _ _
-    (c.pop.ensures.items ∙ ap (λ z. c.pop.new.self.items ++ option_to_list z) c.in-Some.is)
+    group_goes _ _ c.args.group c.in-Some.span _
+    (record { out = c.loop-span.out.items; later = c.loop-span.later.items })
+    (record { out = c.loop-span.out.items; later = c.pop.new.self.items })
+    (record { out = c.put_span.new.out.items; later = c.put_span.new.later.items })
+    (c.pop.ensures.items ∙ ap (λ z. c.pop.new.self.items ++ option_to_list z) c.in-Some.is) refl
     c.loop-span.invariant c.in_ok-put_span.ensures.ok
 
 pub loop-span-smaller : goal.loop-span-smaller

@@ -13,7 +13,7 @@ returns-then-b-ge8 c = record {
 
 pub returns : goal.returns
 returns c = record {
-  value = c.from_be_bytes-2.ensures ∙ eight_of c.as_bytes-b.result.now _ _ _ _ _ _ _ _ c.byte.ensures
+  value = c.from_be_bytes-2.ensures ∙ eight_of c.as_bytes-b.result.now c.byte.ensures
       c.byte-2.ensures c.byte-3.ensures c.byte-4.ensures c.byte-5.ensures c.byte-6.ensures c.byte-7.ensures
       c.byte-8.ensures ∙ ap (leading_number 8) c.as_bytes-b.ensures.value;
   small = λ i. search rules;

@@ -97,4 +97,4 @@ returns-clause-ok c =
     let r = t.4 in
     let left = c.left-left.ensures ∙ ap (λ l. length l.rest) c.in_ok-end.ensures.ok.1 in
     let q = c.in_ok-flush.ensures.wrote _ r.bytes r.wrote left in
-    (t.0, t.1, t.2, t.3, subst (λ z. Holding e z t.1) (sym q.1) (keep_holding d e r.bytes t.1 c.in_ok-flush.ensures.only_text r.holding))
+    (t.0, t.1, t.2, t.3, subst (λ z. Holding e z t.1) (sym q.1) (keep_holding c.in_ok-flush.ensures.only_text r.holding))

@@ -24,8 +24,7 @@ returns-then-len-before c = λ rest s r at.
         distinct =
             s.distinct;
       },
-      λ os f e l.
-          absurd (too_few d r.bytes s c.pop.new.self.items c.in-Some.before h c.in-Some.ensures.items few os f e l),
+      λ os f e l. absurd (too_few c.pop.new.self.items c.in-Some.before h c.in-Some.ensures.items few os f e l),
       record {
         bytes = r.bytes;
         wrote =
@@ -50,7 +49,7 @@ returns-then-rises c = λ rest s r at.
       first = s.first;
       distinct = s.distinct;
     } in
-    let rise = rises_behind d r.bytes s f _ (behind d.members.items c.deref.result.now f c.deref.ensures.value)
+    let rise = rises_behind f _ (behind d.members.items c.deref.result.now f c.deref.ensures.value)
     (c.rises.ensures.rises c.if-rises.true) r.holding in (
       m,
       closes s m c.pop.new.self.items f (sym r.holding.opened ∙ c.in-Some.ensures.items) refl refl
@@ -60,7 +59,8 @@ returns-then-rises c = λ rest s r at.
         wrote =
             record { front = w.front; run = w.run; input = w.input; left = w.left; text = w.text };
         holding =
-            holding_same d _ r.bytes s f within refl refl refl c.truncate.ensures.items refl r.holding;
+            holding_same f within (record { splices = refl; groups = refl; inner = refl; distinct = refl })
+            c.truncate.ensures.items r.holding;
       },
     )
 
@@ -76,7 +76,7 @@ returns c = λ rest s r at.
     (record { front = w.front; run = w.run; input = w.input; left = w.left; text = w.text }) at in
     let t : State = record { entries = s.entries; last = s.last; opened = c.pop.new.self.items; first = s.first; distinct = s.distinct } in
     let popped : Holding e r.bytes t =
-    keep_holding _ e r.bytes t k
+    keep_holding k
     (record { chain = h.chain; good = h.good; opened = refl; distinct = h.distinct }) in
     let whole : Holding e e.out.bytes.items t = subst (λ z. Holding e z t) (sym q.1) popped in
     let within : f ≤ length e.members.items = let number : c.len.result ≡ length d.members.items =
@@ -84,15 +84,21 @@ returns c = λ rest s r at.
     let first = behind d.members.items c.deref.result.now f c.deref.ensures.value in
     let second = behind e.members.items c.deref-2.result.now f c.deref-2.ensures.value in
     let some = subst (λ z. 0 < length z) (first ∙ ap (drop f) (sym k.members) ∙ sym second) (c.rises.ensures.some c.if-rises.false) in
-    let o = holding_sorted e _ t f c.in_ok-is_distinct.is_distinct _ within second some c.in_ok-is_distinct.ensures
-    c.truncate-2.ensures.items refl whole in (
+    let o = holding_sorted within some
+    (record {
+      all = second;
+      is_distinct = c.in_ok-is_distinct.is_distinct;
+      sorts = c.in_ok-is_distinct.ensures;
+      members = c.truncate-2.ensures.items;
+      distinct = refl;
+    }) whole in (
       o.state,
       closes s o.state c.pop.new.self.items f (sym h.opened ∙ c.in-Some.ensures.items) (o.opened ∙ k.opened)
           o.entries (inr (sorted_like (drop f s.entries) s t o.state refl refl o.sorted)),
       record {
         bytes = c.sort_members.new.out.bytes.items;
         wrote =
-            rewound e _ rest [] rest r.bytes _ q.0 refl refl (c.in_ok-flush.ensures.left ∙ at) refl;
+            rewound [] q.0 refl (record { input = refl; left = c.in_ok-flush.ensures.left ∙ at; text_is = refl });
         holding =
             o.holding;
       },

@@ -5,5 +5,13 @@ use Rattle.miniserde_canonical.proofs.draft.Draft.new.Goals as goal
 
 pub returns : goal.returns
 returns c =
-    draft_starts _ c.args.input.now refl refl c.new.ensures.bytes c.new.ensures.splices c.new-2.ensures.bytes
-    c.new-2.ensures.splices c.new-3.ensures.items c.new-4.ensures.items refl
+    draft_starts c.args.input.now refl refl
+    (record {
+      bytes = c.new.ensures.bytes;
+      splices = c.new.ensures.splices;
+      groups = c.new-2.ensures.bytes;
+      inner = c.new-2.ensures.splices;
+      members = c.new-3.ensures.items;
+      opened = c.new-4.ensures.items;
+      distinct = refl;
+    })

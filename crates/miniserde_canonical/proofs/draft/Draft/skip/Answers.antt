@@ -7,4 +7,4 @@ pub returns-in_ok-flush-clause-wrote : goal.returns-in_ok-flush-clause-wrote
 returns-in_ok-flush-clause-wrote c = λ bs t.
     let b = c.skip.ensures.space in
     let q = c.in_ok-flush.ensures.wrote _ bs t c.left-at.ensures in
-    rewound c.flush.new.self _ _ b.space _ bs bs q.0 b.text refl c.left-end.ensures q.1
+    rewound b.space q.0 b.text (record { input = refl; left = c.left-end.ensures; text_is = q.1 })

@@ -10,6 +10,10 @@ pub returns-clause-wrote : goal.returns-clause-wrote
 returns-clause-wrote c = λ rest part rest' bs t e f g p.
     let q = c.in_ok-flush.ensures.wrote rest bs t f in
     let n = string_text (text_of c.args.text c.args.scratch.now) in
-    rewound c.flush.new.self _ rest part rest' bs _ q.0 e refl g
-    (c.in_ok-push.ensures.items ∙ ap (λ z. z ++ 58 ∷ []) (c.in_ok-put_string.ensures ∙ ap (λ z. z ++ n) q.1)
-    ∙ append_assoc bs n (58 ∷ []))
+    rewound part q.0 e
+    (record {
+      input = refl;
+      left = g;
+      text_is = c.in_ok-push.ensures.items ∙ ap (λ z. z ++ 58 ∷ []) (c.in_ok-put_string.ensures ∙ ap (λ z. z ++ n) q.1)
+          ∙ append_assoc bs n (58 ∷ []);
+    })

@@ -18,7 +18,7 @@ pub returns-then-n-ne0-clause-takes : goal.returns-then-n-ne0-clause-takes
 returns-then-n-ne0-clause-takes c = λ rest part rest' x s s' r e f g w p h.
     let q = subst (λ z. SpellsToken z x part) c.in-Negative.is p in
     let a = subst (λ z. TokenStep (first_token (event_of_token z x)) s s') c.in-Negative.is h in
-    stays c.args.self.now rest part rest' s s'
+    stays part rest'
     (subst (λ z. Adds z s s') (sym (as_negative c.in-Negative.n part q.0 (search rules))) a.0) r e
 
 pub returns-in_ok-push-in-Negative-clause-takes : goal.returns-in_ok-push-in-Negative-clause-takes
@@ -26,11 +26,23 @@ returns-in_ok-push-in-Negative-clause-takes c = λ rest part rest' x s s' r e f 
     let zero : c.in-Negative.n ≡ pos 0 = search rules in
     let a = subst (λ z. TokenStep (first_token (event_of_token z x)) s s') c.in-Negative.is h in
     let k = c.in_ok-flush-in-Negative.ensures in
-    rewritten c.args.self.now c.flush.new.self _ rest part rest' s s' (48 ∷ [])
-    (subst (λ z. Adds z s s') (ap (λ z. compact (norm_neg z)) zero ∙ decimal_zero) a.0) r
-    (k.wrote rest r.bytes r.wrote f) k.only_text
-    (record { splices = refl; groups = refl; inner = refl; members = refl; opened = refl; distinct = refl })
-    e refl g c.in_ok-push-in-Negative.ensures.items
+    let q = k.wrote rest r.bytes r.wrote f in
+    let same = k.only_text in
+    rewritten part (48 ∷ []) (subst (λ z. Adds z s s') (ap (λ z. compact (norm_neg z)) zero ∙ decimal_zero) a.0) r q.0
+    (record {
+      splices = same.splices;
+      groups = same.groups;
+      inner = same.inner;
+      members = same.members;
+      opened = same.opened;
+      distinct = same.distinct;
+    })
+    e
+    (record {
+      input = refl;
+      left = g;
+      text_is = c.in_ok-push-in-Negative.ensures.items ∙ ap (λ z. z ++ 48 ∷ []) q.1;
+    })
 
 pub returns-in_ok-put_quoted-in-Str-clause-takes : goal.returns-in_ok-put_quoted-in-Str-clause-takes
 returns-in_ok-put_quoted-in-Str-clause-takes c = λ rest part rest' x s s' r e f g w p h.
@@ -41,24 +53,37 @@ returns-in_ok-put_quoted-in-Str-clause-takes c = λ rest part rest' x s s' r e f
     (subst (λ z. SpelledToken escapes z c.args.escaped.now x) c.in-Str.is w) in
     let text : 34 ∷ (c.args.escaped.now ++ 34 ∷ []) ≡ string_text x =
     ap (λ z. 34 ∷ (z ++ 34 ∷ [])) inside ∙ sym (quoted_escapes x) in
-    rewritten c.args.self.now c.flush-in-Scratch.new.self _ rest part rest' s s' (string_text x)
-    (subst (λ z. Adds (string_text (text_of z x)) s s') c.in-Scratch.is a.0) r
-    (k.wrote rest r.bytes r.wrote f) k.only_text
-    (record { splices = refl; groups = refl; inner = refl; members = refl; opened = refl; distinct = refl })
-    e refl g (c.in_ok-put_quoted-in-Str.ensures ∙ ap (λ z. c.flush-in-Scratch.new.self.out.bytes.items ++ z) text)
+    let q = k.wrote rest r.bytes r.wrote f in
+    let same = k.only_text in
+    rewritten part (string_text x) (subst (λ z. Adds (string_text (text_of z x)) s s') c.in-Scratch.is a.0) r q.0
+    (record {
+      splices = same.splices;
+      groups = same.groups;
+      inner = same.inner;
+      members = same.members;
+      opened = same.opened;
+      distinct = same.distinct;
+    })
+    e
+    (record {
+      input = refl;
+      left = g;
+      text_is = c.in_ok-put_quoted-in-Str.ensures ∙ ap (λ z. c.flush-in-Scratch.new.self.out.bytes.items ++ z) text
+          ∙ ap (λ z. z ++ string_text x) q.1;
+    })
 
 pub returns-in_default-text-clause-takes : goal.returns-in_default-text-clause-takes
 returns-in_default-text-clause-takes c = λ rest part rest' x s s' r e f g w p h.
     let q = subst (λ z. SpellsToken z x part) c.in-Str.is p in
     let a = subst (λ z. TokenStep (first_token (event_of_token z x)) s s') c.in-Str.is h in
-    stays c.args.self.now rest part rest' s s'
+    stays part rest'
     (string_stands c.in-Str.text x part s s' c.in_default-text.not-Scratch q.1 a.0) r e
 
 pub returns-in-SeqStart-clause-takes : goal.returns-in-SeqStart-clause-takes
 returns-in-SeqStart-clause-takes c = λ rest part rest' x s s' r e f g w p h.
     let q = subst (λ z. SpellsToken z x part) c.in-SeqStart.is p in
     let a = subst (λ z. TokenStep (first_token (event_of_token z x)) s s') c.in-SeqStart.is h in
-    stays c.args.self.now rest part rest' s s' (subst (λ z. Adds z s s') (sym q.0) a.0) r e
+    stays part rest' (subst (λ z. Adds z s s') (sym q.0) a.0) r e
 
 pub returns-in-MapStart-clause-takes : goal.returns-in-MapStart-clause-takes
 returns-in-MapStart-clause-takes c = λ rest part rest' x s s' r e f g w p h.
@@ -67,16 +92,16 @@ returns-in-MapStart-clause-takes c = λ rest part rest' x s s' r e f g w p h.
     let d = c.args.self.now in
     let number : c.len.result ≡ length d.members.items = search rules in
     let w : Wrote d rest' (r.bytes ++ 123 ∷ []) =
-    subst (λ z. Wrote d rest' (r.bytes ++ z)) q.0 (wrote_on d rest part rest' r.bytes r.wrote e) in
+    subst (λ z. Wrote d rest' (r.bytes ++ z)) q.0 (wrote_on part rest' r.wrote e) in
     record {
       bytes = r.bytes ++ 123 ∷ [];
       wrote = record { front = w.front; run = w.run; input = w.input; left = w.left; text = w.text };
-      holding = holding_opened d _ r.bytes s s' c.len.result refl refl refl refl c.in_ok-push-in-MapStart.ensures.items
-          number refl o.0 o.1 o.2 o.3 r.holding;
+      holding = holding_opened (record { splices = refl; groups = refl; inner = refl; distinct = refl }) refl
+          (c.in_ok-push-in-MapStart.ensures.items ∙ ap (λ z. d.opened.items ++ z ∷ []) number) o r.holding;
     }
 
 pub returns-in_default-clause-takes : goal.returns-in_default-clause-takes
 returns-in_default-clause-takes c = λ rest part rest' x s s' r e f g w p h.
     let n = c.in_default in
-    stays c.args.self.now rest part rest' s s'
+    stays part rest'
     (as_it_is c.args.token x part s s' p n.not-Negative n.not-Str n.not-MapStart h) r e
