@@ -37,41 +37,41 @@ with_element : (f : Bool) (st : List Kind) (es : List Step) → Spellable due es
 with_element true st es h = h
 with_element false st es h = (44 ∷ h.0, at_front (44 ∷ []) h.0 _ refl h.1 refl)
 
-with_key : (f : Bool) (st : List Kind) (s r n : List ℕ) → Names s n r → (es : List Step)
+with_key : (f : Bool) (st : List Kind) {s r n : List ℕ} → Names s n r → (es : List Step)
     → Spellable due es (Map ∷ st) → Spellable (first_or_after f) (key n ∷ es) (Map ∷ st)
-with_key true st s r n p es h = (p.part ++ h.0, at_front p.part h.0 _ p.is_part h.1 refl)
-with_key false st s r n p es h =
+with_key true st p es h = (p.part ++ h.0, at_front p.part h.0 _ p.is_part h.1 refl)
+with_key false st p es h =
     let named = at_front p.part h.0 _ p.is_part h.1 refl in
     (44 ∷ (p.part ++ h.0), at_front (44 ∷ []) (p.part ++ h.0) _ refl named refl)
 
 -- ---- the same by the innermost container
 
 -- if some text spells the events es after a container, some text spells its end and then es
-pub close_spellable : (st st' : List Kind) (k : Kind) (f : Bool) → innermost st ≡ Some k → st' ≡ outer st
+pub close_spellable : (st st' : List Kind) {k : Kind} (f : Bool) → innermost st ≡ Some k → st' ≡ outer st
     → (es : List Step) → Spellable after es st' → Spellable (first_or_after f) (finish ∷ es) st
-close_spellable st st' k f h q es p =
+close_spellable st st' {k = k} f h q es p =
     subst (λ z. Spellable (first_or_after f) (finish ∷ es) z) (sym (split_top st k h))
     (with_finish k f (outer st) es (subst (λ z. Spellable after es z) q p))
 
 -- if an array is innermost and some text spells es where a value is due, some text spells `element` and then es
-pub element_spellable : (st : List Kind) (k : Kind) (f : Bool) → innermost st ≡ Some k → k ≡ Seq → (es : List Step)
+pub element_spellable : (st : List Kind) {k : Kind} (f : Bool) → innermost st ≡ Some k → k ≡ Seq → (es : List Step)
     → Spellable due es st → Spellable (first_or_after f) (element ∷ es) st
-element_spellable st k f h e es =
+element_spellable st f h e es =
     subst (λ z. Spellable due es z → Spellable (first_or_after f) (element ∷ es) z)
     (sym (split_top st Seq (h ∙ ap Some e))) (with_element f (outer st) es)
 
 -- if an object is innermost and some text spells es where a value is due, some text spells the name n and then es
-pub key_spellable : (st : List Kind) (s r n : List ℕ) (k : Kind) (f : Bool) → innermost st ≡ Some k → k ≡ Map
+pub key_spellable : (st : List Kind) {s r n : List ℕ} {k : Kind} (f : Bool) → innermost st ≡ Some k → k ≡ Map
     → Names s n r → (es : List Step) → Spellable due es st → Spellable (first_or_after f) (key n ∷ es) st
-key_spellable st s r n k f h e p es =
+key_spellable st {n = n} f h e p es =
     subst (λ z. Spellable due es z → Spellable (first_or_after f) (key n ∷ es) z)
-    (sym (split_top st Map (h ∙ ap Some e))) (with_key f (outer st) s r n p es)
+    (sym (split_top st Map (h ∙ ap Some e))) (with_key f (outer st) p es)
 
 -- if a text starts with e, and some text spells es behind e, some text spells e and then es
-pub start_spellable : (st : List Kind) (s r : List ℕ) (e : Step) (f : Bool) (st' : List Kind) → Starts s e r
+pub start_spellable : (st : List Kind) {s r : List ℕ} (e : Step) {f : Bool} {st' : List Kind} → Starts s e r
     → f ≡ is_some (opened_kind e) → st' ≡ with_opened (opened_kind e) st → (es : List Step)
     → Spellable (first_or_after f) es st' → Spellable due (e ∷ es) st
-start_spellable st s r e f st' k p q es h =
+start_spellable st e {f = f} k p q es h =
     let i : Spellable (first_or_after (is_some (opened_kind e))) es (with_opened (opened_kind e) st) =
     subst (λ z. Spellable (first_or_after z) es (with_opened (opened_kind e) st)) p
     (subst (λ z. Spellable (first_or_after f) es z) q h) in

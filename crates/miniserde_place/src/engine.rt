@@ -8,10 +8,10 @@ ghost use Rattle.miniserde_text.specs.Lexer.{event_of_token};
 ghost use Rattle.miniserde_model.specs.declared.error.Error.{Error};
 ghost use Rattle.miniserde_read.specs.Rest.{ValueAt, GivesAt, GivesNoneAt};
 ghost use Rattle.miniserde_read.specs.Events.{EventInRange};
-ghost use Rattle.miniserde_text.specs.private.Moving.{first_or_after, due_or_after, opened_kind};
+ghost use Rattle.miniserde_text.specs.private.Moving.{opened_kind};
 ghost use Rattle.miniserde_text.specs.private.Stack.{innermost, with_opened};
 ghost use Rattle.miniserde_place.specs.Place.{AdvancesBy, BeginsTree, Advances, Rejects};
-ghost use Rattle.miniserde_place.specs.private.Runs.{Moved, RejectsRuns};
+ghost use Rattle.miniserde_place.specs.private.Runs.{Moved, RejectsRuns, state_before, after_move};
 
 use crate::de::{Step, Visitor};
 use miniserde_model::error::{Error, Result};
@@ -117,12 +117,10 @@ fn take_child_or_end<'a, V: Visitor>(
     ensures less { IfOk result (λ is_due. (length source.new.rest ≤ length source.old.rest)
         × (is_due ≡ false → length source.new.rest < length source.old.rest)) }
     ensures moved { IfOk result (λ is_due.
-        Moved (first_or_after first) stack.old source.old.rest
-        (V.meaning.view place.old).at (V.meaning.view place.old).outcome
-        (due_or_after is_due) stack.new source.new.rest (V.meaning.view place.new).at (V.meaning.view place.new).outcome) }
+        Moved (state_before first stack.old source.old.rest (V.meaning.view place.old))
+        (after_move is_due stack.new source.new.rest (V.meaning.view place.new))) }
     ensures invalid { result ≡ Err Error.Invalid →
-        RejectsRuns (first_or_after first) stack.old source.old.rest
-        (V.meaning.view place.old).outcome (V.meaning.view place.old).at }
+        RejectsRuns (state_before first stack.old source.old.rest (V.meaning.view place.old)) }
     ensures sticky { IfErr result (λ e. ((V.meaning.view place.new).refused ≡ Some e) ⊎ (place.new ≡ place.old)) }
 {
     match source.after(kind, first)? {

@@ -26,8 +26,7 @@ returns-clause-ok g c =
     let ev = event_of_token c.args.token c.args.source.now.scratch in
     let s = c.args.source.now.rest in
     let r = c.in_ok-feed_from.ensures.ok in
-    let l = mean_leads v.from_events (v.view c.in_ok-place.place).at (v.view c.in_ok-place.place).outcome
-    (v.view c.feed_from.new.place).at (v.view c.feed_from.new.place).outcome r.0 f.fresh f.outcome r.2 in
+    let l = mean_leads v.from_events (v.view c.in_ok-place.place) (v.view c.feed_from.new.place) r.0 f r.2 in
     IfOk-weaker c.take.result
     (λ x. ((v.view c.feed_from.new.place).at ≡ complete)
     × ((v.view c.feed_from.new.place).outcome [] ≡ Some (v.content x)))
@@ -41,7 +40,6 @@ returns-clause-invalid g c = λ e t x p.
     let ev = event_of_token c.args.token c.args.source.now.scratch in
     let s = c.args.source.now.rest in
     let r = c.in_ok-feed_from.ensures.ok in
-    let l = mean_leads v.from_events (v.view c.in_ok-place.place).at (v.view c.in_ok-place.place).outcome
-    (v.view c.feed_from.new.place).at (v.view c.feed_from.new.place).outcome r.0 f.fresh f.outcome r.2 in
+    let l = mean_leads v.from_events (v.view c.in_ok-place.place) (v.view c.feed_from.new.place) r.0 f r.2 in
     let o : (v.view c.feed_from.new.place).outcome [] ≡ None = c.take.ensures.invalid e c.in_ok-feed_from.ensures.unrefused l.0 in
     ap v.from_tree (value_same t r.0 ev s x c.feed_from.new.source.rest p r.1).0 ∙ sym (v.events_agree r.0) ∙ sym l.1 ∙ o

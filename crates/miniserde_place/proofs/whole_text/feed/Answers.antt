@@ -12,7 +12,7 @@ use Rattle.miniserde_text.specs.Lexer.{event_of_token}
 use Rattle.miniserde_read.proofs.Tokens.{start_event}
 use Rattle.miniserde_read.proofs.Same.{value_same}
 use Rattle.miniserde_read.proofs.Json.{json_at, json_front, at_json}
-use Rattle.miniserde_place.specs.Place.{PositionAdvancesBy, PositionBeginsTree}
+use Rattle.miniserde_place.specs.Place.{AdvancesBy, BeginsTree}
 use Rattle.miniserde_place.proofs.InRange.{value_in_range}
 use Rattle.miniserde_place.proofs.Feeds.{begun_none, begun_whole, if_err}
 use Rattle.miniserde_place.proofs.whole_text.feed.Goals as goal
@@ -40,9 +40,8 @@ returns-in_err-token-clause-sticky g c =
     let v = g.V.Visitor.meaning.view in
     if_err c.from_residual.result
     (λ e. ((v c.args.place.now).refused ≡ Some e)
-    ⊎ (((v c.args.place.now).refused ≡ None) × PositionBeginsTree (v c.args.place.now).at
-    (v c.args.place.now).outcome (v c.args.place.now).at (v c.args.place.now).outcome))
-    (λ e. inr (c.requires.unrefused, begun_none (v c.args.place.now).at (v c.args.place.now).outcome))
+    ⊎ (((v c.args.place.now).refused ≡ None) × BeginsTree (v c.args.place.now) (v c.args.place.now)))
+    (λ e. inr (c.requires.unrefused, begun_none (v c.args.place.now)))
 
 -- ---- the value is refused
 
@@ -68,8 +67,8 @@ returns-clause-ok g c =
     let k : Starts c.args.j.now ev s = subst (λ z. Starts z ev s) c.new-source.ensures.rest c.in_ok-token.ensures.ok in
     let r = c.in_ok-feed_from.ensures.ok in
     IfOk-weaker c.end.result (λ _. IsWhitespace c.feed_from.new.source.rest)
-    (λ _. (t : Tree) × IsJson c.args.j.now t × PositionAdvancesBy (v c.args.place.now).at
-    (v c.args.place.now).outcome (events t) (v c.feed_from.new.place).at (v c.feed_from.new.place).outcome)
+    (λ _. (t : Tree) × IsJson c.args.j.now t × AdvancesBy (v c.args.place.now) (events t)
+    (v c.feed_from.new.place))
     (λ _ w. (r.0, at_json c.args.j.now r.0 ev s c.feed_from.new.source.rest k r.1 w, r.2)) c.end.ensures.ok
 
 pub returns-clause-invalid : goal.returns-clause-invalid
@@ -91,10 +90,9 @@ returns-clause-sticky g c =
     let r = c.in_ok-feed_from.ensures.ok in
     let i = value_in_range r.0 ev c.args.j.now s c.feed_from.new.source.rest k r.1 in
     if_err c.end.result (λ e. ((v c.feed_from.new.place).refused ≡ Some e)
-    ⊎ (((v c.feed_from.new.place).refused ≡ None) × PositionBeginsTree (v c.args.place.now).at
-    (v c.args.place.now).outcome (v c.feed_from.new.place).at (v c.feed_from.new.place).outcome))
+    ⊎ (((v c.feed_from.new.place).refused ≡ None) × BeginsTree (v c.args.place.now)
+    (v c.feed_from.new.place)))
     (λ e. inr (
       c.in_ok-feed_from.ensures.unrefused,
-      begun_whole (v c.args.place.now).at (v c.args.place.now).outcome
-          r.0 (v c.feed_from.new.place).at (v c.feed_from.new.place).outcome i r.2,
+      begun_whole (v c.args.place.now) r.0 (v c.feed_from.new.place) i r.2,
     ))
