@@ -20,19 +20,19 @@ due_less {s = s} {r = r} p =
     omega (arith, a, b)
 
 -- what stands at the front has the event that was taken
-pub due_front : (s b c r : List ℕ) (d e : Step) (t : Tree) → Starts s e c → Starts s d b → ValueAt t d b r → ValueAt t e c r
-due_front s b c r d e t k h v =
+pub due_front : {s b c : List ℕ} (r : List ℕ) (d e : Step) (t : Tree) → Starts s e c → Starts s d b → ValueAt t d b r → ValueAt t e c r
+due_front {s = s} {b = b} {c = c} r d e t k h v =
     let one = same_start s d e b c h k in
     subst (λ z. ValueAt t z c r) one.0 (subst (λ z. ValueAt t d z r) one.1 v)
 
 -- what gives a content behind the first token, gives it where it was due
-pub due_reads : {C : Type 0} (of : Tree → Option C) (s c r : List ℕ) (e : Step) (v : C) → Starts s e c → GivesAt of e c r v
+pub due_reads : {C : Type 0} (of : Tree → Option C) {s c r : List ℕ} (e : Step) {v : C} → Starts s e c → GivesAt of e c r v
     → ReadsDue of s r v
-due_reads of s c r e v k p = record { one = p.0; event = e; behind = c; starts = k; is_value = p.1; gives = p.2 }
+due_reads of {c = c} e k p = record { one = p.0; event = e; behind = c; starts = k; is_value = p.1; gives = p.2 }
 
 -- what gives nothing behind the first token, gives nothing where it was due
 pub due_rejects : {C : Type 0} (of : Tree → Option C) (s c : List ℕ) (e : Step) → Starts s e c → GivesNoneAt of e c → RejectsDue of s
-due_rejects of s c e k n t d b r h v = n t r (due_front s b c r d e t k h v)
+due_rejects of s c e k n t d b r h v = n t r (due_front r d e t k h v)
 
 module _ {V : Type 0} (m : Meaning V) (f : Bool) (s : List ℕ) where
   -- the text behind an element is shorter than the text before it

@@ -27,20 +27,20 @@ use Rattle.miniserde_read.proofs.Values.{element_at, member_at, list_at, object_
 
 mutual
   value_at : (t : Tree) (rest : List Step) (st : List Kind) (s r : List ℕ) → Runs due (events t ++ rest) st s r → At t rest st s r
-  value_at null rest st s r h = leaf_at null step.null rest st s h.0 r h.1 (refl, refl) h.2
-  value_at (truth x) rest st s r h = leaf_at (truth x) (boolean x) rest st s h.0 r h.1 (refl, refl) h.2
-  value_at (nonneg n) rest st s r h = leaf_at (nonneg n) (nonnegative n) rest st s h.0 r h.1 (refl, refl) h.2
-  value_at (neg n) rest st s r h = leaf_at (neg n) (negative n) rest st s h.0 r h.1 (refl, refl) h.2
-  value_at (num x) rest st s r h = leaf_at (num x) (float x) rest st s h.0 r h.1 (refl, refl) h.2
-  value_at (str x) rest st s r h = leaf_at (str x) (string x) rest st s h.0 r h.1 (refl, refl) h.2
+  value_at null rest st s r h = leaf_at step.null h.1 (refl, refl) h.2
+  value_at (truth x) rest st s r h = leaf_at (boolean x) h.1 (refl, refl) h.2
+  value_at (nonneg n) rest st s r h = leaf_at (nonnegative n) h.1 (refl, refl) h.2
+  value_at (neg n) rest st s r h = leaf_at (negative n) h.1 (refl, refl) h.2
+  value_at (num x) rest st s r h = leaf_at (float x) h.1 (refl, refl) h.2
+  value_at (str x) rest st s r h = leaf_at (string x) h.1 (refl, refl) h.2
   value_at (list ts) rest st s r h =
       let a = elements_at ts true rest st h.0 r
       (subst (λ z. Runs first z (Seq ∷ st) h.0 r) (append_assoc (child_events ts) (finish ∷ []) rest) h.2) in
-      list_at ts rest st s h.0 r h.1 a
+      list_at h.1 a
   value_at (members ms) rest st s r h =
       let a = members_at ms true rest st h.0 r
       (subst (λ z. Runs first z (Map ∷ st) h.0 r) (append_assoc (member_events ms) (finish ∷ []) rest) h.2) in
-      object_at ms rest st s h.0 r h.1 a
+      object_at h.1 a
 
   elements_at : (ts : Trees) (f : Bool) (rest : List Step) (st : List Kind) (s r : List ℕ)
       → Runs (first_or_after f) (child_events ts ++ finish ∷ rest) (Seq ∷ st) s r → ElementsEnd ts f rest st s r
@@ -49,11 +49,11 @@ mutual
   elements_at (tree t ts) true rest st s r h =
       let a = value_at t (child_events ts ++ finish ∷ rest) (Seq ∷ st) h.0 r
       (subst (λ z. Runs due z (Seq ∷ st) h.0 r) (append_assoc (events t) (child_events ts) (finish ∷ rest)) h.2) in
-      element_at t ts true _ rest st s h.0 r h.1 a (elements_at ts false rest st a.end r a.is_rest)
+      element_at t ts true rest h.1 a (elements_at ts false rest st a.end r a.is_rest)
   elements_at (tree t ts) false rest st s r h =
       let a = value_at t (child_events ts ++ finish ∷ rest) (Seq ∷ st) h.0 r
       (subst (λ z. Runs due z (Seq ∷ st) h.0 r) (append_assoc (events t) (child_events ts) (finish ∷ rest)) h.2) in
-      element_at t ts false _ rest st s h.0 r h.1 a (elements_at ts false rest st a.end r a.is_rest)
+      element_at t ts false rest h.1 a (elements_at ts false rest st a.end r a.is_rest)
 
   members_at : (ms : Members) (f : Bool) (rest : List Step) (st : List Kind) (s r : List ℕ)
       → Runs (first_or_after f) (member_events ms ++ finish ∷ rest) (Map ∷ st) s r → MembersEnd ms f rest st s r
@@ -62,14 +62,15 @@ mutual
   members_at (member n t ms) true rest st s r h =
       let a = value_at t (member_events ms ++ finish ∷ rest) (Map ∷ st) h.1 r
       (subst (λ z. Runs due z (Map ∷ st) h.1 r) (append_assoc (events t) (member_events ms) (finish ∷ rest)) h.4) in
-      member_at n t ms true _ rest st s h.0 h.1 r h.2 h.3 a (members_at ms false rest st a.end r a.is_rest)
+      member_at t ms true rest h.2 h.3 a (members_at ms false rest st a.end r a.is_rest)
   members_at (member n t ms) false rest st s r h =
       let a = value_at t (member_events ms ++ finish ∷ rest) (Map ∷ st) h.1 r
       (subst (λ z. Runs due z (Map ∷ st) h.1 r) (append_assoc (events t) (member_events ms) (finish ∷ rest)) h.4) in
-      member_at n t ms false _ rest st s h.0 h.1 r h.2 h.3 a (members_at ms false rest st a.end r a.is_rest)
+      member_at t ms false rest h.2 h.3 a (members_at ms false rest st a.end r a.is_rest)
 
 -- ---- whole texts
 
+-- the text j is a value that spells t, by its first event and the text behind that, and then whitespace
 pub record JsonAt (j : List ℕ) (t : Tree) : Type 0 where
   pub event : Step
   pub behind : List ℕ
@@ -101,8 +102,9 @@ json_front j t e s h k =
     (a.end, subst (λ z. ValueAt t z s a.end) one.0 (subst (λ z. ValueAt t a.event z a.end) one.1 a.is_value), a.is_space)
 
 -- a text with the first event of a tree, the rest of the value and then whitespace spells the tree
-pub at_json : (j : List ℕ) (t : Tree) (e : Step) (s r : List ℕ) → Starts j e s → ValueAt t e s r → IsWhitespace r → IsJson j t
-at_json j t e s r k v w =
-    let u = run_json (events t ++ []) j r (value_then_runs t e j s r [] [] r k v refl) w in
-    let a = json_front j u.0 e s u.2 k in
-    subst (λ z. IsJson j z) (value_same u.0 t e s a.0 r a.1 v).0 u.2
+pub at_json : (j : List ℕ) (t : Tree) → JsonAt j t → IsJson j t
+at_json j t p =
+    let runs = value_then_runs t p.event j p.behind p.end [] [] p.end p.starts p.is_value refl in
+    let u = run_json (events t ++ []) j p.end runs p.is_space in
+    let a = json_front j u.0 p.event p.behind u.2 p.starts in
+    subst (λ z. IsJson j z) (value_same u.0 t p.event p.behind a.0 p.end a.1 p.is_value).0 u.2

@@ -78,7 +78,7 @@ module _ {V : Type 0} {m : Meaning V} {begin : List ℕ} where
             (a.0, a.1, a.2 ∙ one_more m items v k.one us k.gives);
         back = λ ts r p.
             let a = g.back ts r p in
-            let u = elements_there a.0 f s h.0 k.behind r k.event h.1 k.starts a.1 in
+            let u = elements_there a.0 f s k.event h.1 k.starts a.1 in
             let same = value_same u.one k.one k.event k.behind u.rest d u.is_value k.is_value in (
               u.more,
               subst (λ z. ElementsAt u.more false z r) same.1 u.is_rest,

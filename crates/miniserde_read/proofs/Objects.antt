@@ -75,8 +75,8 @@ module _ {S : Type 0} {next : S → Name → Tree → Option S} {empty : S} {beg
             (a.0, a.1, a.2 ∙ one_more next m m' n p.one us p.gives);
         back = λ ms r q.
             let a = g.back ms r q in
-            let u = members_there a.0 f s h.0 c r n h.1 j a.1 in
-            let v = due_front c u.behind p.behind u.rest u.event p.event u.one p.starts u.starts u.is_value in
+            let u = members_there a.0 f s h.1 j a.1 in
+            let v = due_front u.rest u.event p.event u.one p.starts u.starts u.is_value in
             let one = value_same u.one p.one p.event p.behind u.rest d v p.is_value in (
               u.more,
               subst (λ z. MembersAt u.more false z r) one.1 u.is_rest,
@@ -92,7 +92,7 @@ module _ {S : Type 0} {next : S → Name → Tree → Option S} {empty : S} {beg
   object_none x c {o = Some o} {name} h e n ms r p =
       let same : o ≡ name = cc in
       let a = g.back ms r p in
-      let u = members_there a.0 f s h.0 c r (text_of o x) h.1 h.2 a.1 in
+      let u = members_there a.0 f s h.1 h.2 a.1 in
       a.2 ∙ ap (after_members next m) u.is ∙ none_more next m (text_of o x) u.one u.more
       (ap (λ z. next m (text_of z x) u.one) same ∙ n u.one u.event u.behind u.rest u.starts u.is_value)
 

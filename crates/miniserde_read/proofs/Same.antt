@@ -58,20 +58,20 @@ leaf_tree (float x) = num x
 leaf_tree (string x) = str x
 leaf_tree _ = null
 
-same_leaf : (t u : Tree) (e : Step) (s r x : List ℕ) → leaf_tree (first_event t) ≡ t → leaf_tree (first_event u) ≡ u
+same_leaf : {t u : Tree} {e : Step} {s r x : List ℕ} → leaf_tree (first_event t) ≡ t → leaf_tree (first_event u) ≡ u
     → e ≡ first_event t → e ≡ first_event u → r ≡ s → x ≡ s → (t ≡ u) × (r ≡ x)
-same_leaf t u e s r x ht hu p q i j = (sym ht ∙ ap leaf_tree (sym p ∙ q) ∙ hu, i ∙ sym j)
+same_leaf ht hu p q i j = (sym ht ∙ ap leaf_tree (sym p ∙ q) ∙ hu, i ∙ sym j)
 
 -- ---- one tree
 
 mutual
   pub value_same : (t u : Tree) (e : Step) (s r x : List ℕ) → ValueAt t e s r → ValueAt u e s x → (t ≡ u) × (r ≡ x)
   value_same null null e s r x p q = (refl, p.1 ∙ sym q.1)
-  value_same (truth a) (truth b) e s r x p q = same_leaf (truth a) (truth b) e s r x refl refl p.0 q.0 p.1 q.1
-  value_same (nonneg a) (nonneg b) e s r x p q = same_leaf (nonneg a) (nonneg b) e s r x refl refl p.0 q.0 p.1 q.1
-  value_same (neg a) (neg b) e s r x p q = same_leaf (neg a) (neg b) e s r x refl refl p.0 q.0 p.1 q.1
-  value_same (num a) (num b) e s r x p q = same_leaf (num a) (num b) e s r x refl refl p.0 q.0 p.1 q.1
-  value_same (str a) (str b) e s r x p q = same_leaf (str a) (str b) e s r x refl refl p.0 q.0 p.1 q.1
+  value_same (truth a) (truth b) e s r x p q = same_leaf refl refl p.0 q.0 p.1 q.1
+  value_same (nonneg a) (nonneg b) e s r x p q = same_leaf refl refl p.0 q.0 p.1 q.1
+  value_same (neg a) (neg b) e s r x p q = same_leaf refl refl p.0 q.0 p.1 q.1
+  value_same (num a) (num b) e s r x p q = same_leaf refl refl p.0 q.0 p.1 q.1
+  value_same (str a) (str b) e s r x p q = same_leaf refl refl p.0 q.0 p.1 q.1
   value_same (list ts) (list us) e s r x p q = let h = elements_same ts us true s r x p.1 q.1 in (ap list h.0, h.1)
   value_same (members ms) (members ns) e s r x p q = let h = members_same ms ns true s r x p.1 q.1 in (ap members h.0, h.1)
   value_same t u e s r x p q = let k : tag (first_event t) ≡ tag (first_event u) =

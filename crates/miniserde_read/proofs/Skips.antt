@@ -20,12 +20,12 @@ use Rattle.miniserde_read.proofs.Values.{value_later, whole_at}
 
 -- If `enter` succeeded on the first token of a due value, the token leads to the text r behind it: to the moment
 -- `first` in the container that it opens, or, if it opens none, to the moment `after` in the containers st.
-pub entered : (result : Result Bool Error) (st : List Kind) (s r : List ℕ) (e : Step) (st' : List Kind)
+pub entered : (result : Result Bool Error) (st : List Kind) {s r : List ℕ} (e : Step) (st' : List Kind)
     → Starts s e r → IfOk result (λ b. b ≡ is_some (opened_kind e))
     → IfOk result (λ _. st' ≡ with_opened (opened_kind e) st)
     → IfOk result (λ b. Reaches due st s (first_or_after b) st' r)
-entered (Ok b) st s r e st' p q h = record { done = e ∷ []; passed = value_passed st s r e b st' p q h }
-entered (Err x) st s r e st' p q h = tt
+entered (Ok b) st {s = s} {r = r} e st' p q h = record { done = e ∷ []; passed = value_passed st s r e b st' p q h }
+entered (Err x) st e st' p q h = tt
 
 -- before the first turn
 pub reaches_init : (e : Step) (f : Bool) (st : List Kind) (s : List ℕ) → f ≡ is_some (opened_kind e)
@@ -43,19 +43,19 @@ reaches_init e f st s p q =
     }))
 
 -- where no container is left open
-pub skip_ok : (x : lexed.Event) (scratch s s' : List ℕ) (f : Bool) (st' : List Kind) → innermost st' ≡ None
+pub skip_ok : (x : lexed.Event) (scratch : List ℕ) {s s' : List ℕ} (f : Bool) (st' : List Kind) → innermost st' ≡ None
     → Reaches (first_or_after (is_some (opened_kind (event_of_token x scratch))))
     (with_opened (opened_kind (event_of_token x scratch)) []) s (first_or_after f) st' s'
     → (t : Tree) × ValueAt t (event_of_token x scratch) s s'
-skip_ok x scratch s s' true [] h p = absurd p.passed.live
-skip_ok x scratch s s' false [] h p =
+skip_ok x scratch true [] h p = absurd p.passed.live
+skip_ok x scratch {s = s} {s' = s'} false [] h p =
     let e = event_of_token x scratch in
     let runs : Runs (first_or_after (is_some (opened_kind e))) p.done (with_opened (opened_kind e) []) s s' =
     subst (λ z. Runs (first_or_after (is_some (opened_kind e))) z (with_opened (opened_kind e) []) s s')
     (append-nil p.done) (p.passed.on [] s' refl) in
     let w = whole_at x scratch p.done s s' runs in
     (w.tree, w.is_value)
-skip_ok x scratch s s' f (c ∷ st) h p = absurd (true≢false (ap is_some h))
+skip_ok x scratch f (c ∷ st) h p = absurd (true≢false (ap is_some h))
 
 -- where the text cannot go on
 pub skip_none : (e : Step) (s : List ℕ)

@@ -33,10 +33,10 @@ pub record ElementThere (ts : Trees) (e : Step) (c r : List ℕ) : Type 0 where
   pub is_rest : ElementsAt more false rest r
 
 -- if an element is next that starts with e, it is the first remaining one, and its value begins with e
-pub elements_there : (ts : Trees) (f : Bool) (s b c r : List ℕ) (e : Step) → Follows Seq f false s b → Starts b e c
+pub elements_there : (ts : Trees) (f : Bool) (s : List ℕ) {b c r : List ℕ} (e : Step) → Follows Seq f false s b → Starts b e c
     → ElementsAt ts f s r → ElementThere ts e c r
-elements_there no_trees f s b c r e h k p = absurd (close_no_next Seq f s r b p h)
-elements_there (tree t ts) f s b c r e h k p =
+elements_there no_trees f s {b = b} {r = r} e h k p = absurd (close_no_next Seq f s r b p h)
+elements_there (tree t ts) f s {b = b} {c = c} e h k p =
     let one = next_same Seq f s p.begin b p.follows h in
     let two = same_start b p.event e p.behind c (subst (λ z. Starts z p.event p.behind) one p.starts) k in
     record {
@@ -79,10 +79,10 @@ pub record MemberThere (ms : Members) (n : List ℕ) (c r : List ℕ) : Type 0 w
   pub is_rest : MembersAt more false rest r
 
 -- if a member of the name n is next, it is the first remaining one
-pub members_there : (ms : Members) (f : Bool) (s b c r n : List ℕ) → Follows Map f false s b → Names b n c
+pub members_there : (ms : Members) (f : Bool) (s : List ℕ) {b c r n : List ℕ} → Follows Map f false s b → Names b n c
     → MembersAt ms f s r → MemberThere ms n c r
-members_there no_members f s b c r n h k p = absurd (close_no_next Map f s r b p h)
-members_there (member m t ms) f s b c r n h k p =
+members_there no_members f s {b = b} {r = r} h k p = absurd (close_no_next Map f s r b p h)
+members_there (member m t ms) f s {b = b} {c = c} {n = n} h k p =
     let one = next_same Map f s p.begin b p.follows h in
     let two = same_name b m n p.named c (subst (λ z. Names z m p.named) one p.names) k in
     record {

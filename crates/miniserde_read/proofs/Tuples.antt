@@ -35,7 +35,7 @@ module _ {A B : Type 0} (of : Tree → Option A) (more : Trees → Option B) (f 
   module _ (b d : List ℕ) (a : A) (h : Follows Seq f false s b) (v : ReadsDue of b d a) where
     pub later_none : ItemsGiveNoneAt more false d → ItemsGiveNoneAt (item_of of more) f s
     later_none n ts r p =
-        let u = elements_there ts f s b v.behind r v.event h v.starts p in
+        let u = elements_there ts f s v.event h v.starts p in
         let same = value_same u.one v.one v.event v.behind u.rest d u.is_value v.is_value in
         ap (item_of of more) u.is ∙ ap (λ o. both (of u.one, o))
         (n u.more r (subst (λ z. ElementsAt u.more false z r) same.1 u.is_rest)) ∙ no_rest (of u.one)

@@ -131,9 +131,9 @@ pub record At (t : Tree) (rest : List Step) (st : List Kind) (s r : List ℕ) : 
   pub is_rest : Runs after rest st end r
 
 -- a leaf stands where its token does
-pub leaf_at : (t : Tree) (e : Step) (rest : List Step) (st : List Kind) (s b r : List ℕ) → Starts s e b → ValueAt t e b b
+pub leaf_at : {t : Tree} (e : Step) {rest : List Step} {st : List Kind} {s b r : List ℕ} → Starts s e b → ValueAt t e b b
     → Runs after rest st b r → At t rest st s r
-leaf_at t e rest st s b r k v h = record { event = e; behind = b; end = b; starts = k; is_value = v; is_rest = h }
+leaf_at e {b = b} k v h = record { event = e; behind = b; end = b; starts = k; is_value = v; is_rest = h }
 
 -- elements stand first, up to the closing bracket, and the run goes on behind it
 abbrev pub ElementsEnd : Trees → Bool → List Step → List Kind → List ℕ → List ℕ → Type 0
@@ -144,10 +144,10 @@ abbrev pub MembersEnd : Members → Bool → List Step → List Kind → List �
 MembersEnd ms f rest st s r = (x : List ℕ) × MembersAt ms f s x × Runs after rest st x r
 
 -- one element and those behind it
-pub element_at : (t : Tree) (ts : Trees) (f : Bool) (es rest : List Step) (st : List Kind) (s b r : List ℕ)
+pub element_at : (t : Tree) (ts : Trees) (f : Bool) {es : List Step} (rest : List Step) {st : List Kind} {s b r : List ℕ}
     → Follows Seq f false s b → (a : At t es (Seq ∷ st) b r) → ElementsEnd ts false rest st a.end r
     → ElementsEnd (tree t ts) f rest st s r
-element_at t ts f es rest st s b r p a m = (
+element_at t ts f rest {b = b} p a m = (
   m.0,
   record {
     begin = b;
@@ -163,10 +163,10 @@ element_at t ts f es rest st s b r p a m = (
 )
 
 -- one member and those behind it
-pub member_at : (n : List ℕ) (t : Tree) (ms : Members) (f : Bool) (es rest : List Step) (st : List Kind) (s b c r : List ℕ)
-    → Follows Map f false s b → Names b n c → (a : At t es (Map ∷ st) c r) → MembersEnd ms false rest st a.end r
+pub member_at : {n : List ℕ} (t : Tree) (ms : Members) (f : Bool) {es : List Step} (rest : List Step) {st : List Kind}
+    {s b c r : List ℕ} → Follows Map f false s b → Names b n c → (a : At t es (Map ∷ st) c r) → MembersEnd ms false rest st a.end r
     → MembersEnd (member n t ms) f rest st s r
-member_at n t ms f es rest st s b c r p q a m = (
+member_at t ms f rest {b = b} {c = c} p q a m = (
   m.0,
   record {
     begin = b;
@@ -184,15 +184,15 @@ member_at n t ms f es rest st s b c r p q a m = (
 )
 
 -- an array stands where its opening bracket does
-pub list_at : (ts : Trees) (rest : List Step) (st : List Kind) (s b r : List ℕ) → Starts s seq b
+pub list_at : {ts : Trees} {rest : List Step} {st : List Kind} {s b r : List ℕ} → Starts s seq b
     → ElementsEnd ts true rest st b r → At (list ts) rest st s r
-list_at ts rest st s b r k a =
+list_at {b = b} k a =
     record { event = seq; behind = b; end = a.0; starts = k; is_value = (refl, a.1); is_rest = a.2 }
 
 -- an object stands where its opening bracket does
-pub object_at : (ms : Members) (rest : List Step) (st : List Kind) (s b r : List ℕ) → Starts s map b
+pub object_at : {ms : Members} {rest : List Step} {st : List Kind} {s b r : List ℕ} → Starts s map b
     → MembersEnd ms true rest st b r → At (members ms) rest st s r
-object_at ms rest st s b r k a =
+object_at {b = b} k a =
     record { event = map; behind = b; end = a.0; starts = k; is_value = (refl, a.1); is_rest = a.2 }
 
 record FoundValue (es : List Step) (st : List Kind) (s r : List ℕ) : Type 0 where
@@ -216,51 +216,52 @@ record FoundMembers (f : Bool) (es : List Step) (st : List Kind) (s r : List ℕ
 shorter : (n : ℕ) (es : List Step) (st : List Kind) (s r : List ℕ) (v : FoundValue es st s r) → length es ≤ n → length v.left ≤ n
 shorter n es st s r v h = omega (arith, ap length v.is, length-append (events v.found) v.left)
 
-joined : (e : Step) (es fs gs hs left : List Step) → es ≡ fs ++ gs → gs ≡ hs ++ finish ∷ left → e ∷ es ≡ (e ∷ (fs ++ hs)) ++ finish ∷ left
-joined e es fs gs hs left p q = ap (λ z. e ∷ z) (p ∙ ap (λ z. fs ++ z) q ∙ sym (append_assoc fs hs (finish ∷ left)))
+joined : (e : Step) {es gs : List Step} (fs hs left : List Step) → es ≡ fs ++ gs → gs ≡ hs ++ finish ∷ left
+    → e ∷ es ≡ (e ∷ (fs ++ hs)) ++ finish ∷ left
+joined e fs hs left p q = ap (λ z. e ∷ z) (p ∙ ap (λ z. fs ++ z) q ∙ sym (append_assoc fs hs (finish ∷ left)))
 
-add_element : (f : Bool) (es : List Step) (st : List Kind) (s b r : List ℕ) → Follows Seq f false s b
+add_element : (f : Bool) {es : List Step} {st : List Kind} {s b r : List ℕ} → Follows Seq f false s b
     → (v : FoundValue es (Seq ∷ st) b r) → FoundElements false v.left st v.at.end r
     → FoundElements f (element ∷ es) st s r
-add_element f es st s b r p v m =
+add_element f p v m =
     record {
       found = tree v.found m.found;
       left = m.left;
-      is = joined element es (events v.found) v.left (child_events m.found) m.left v.is m.is;
-      at = element_at v.found m.found f v.left m.left st s b r p v.at m.at;
+      is = joined element (events v.found) (child_events m.found) m.left v.is m.is;
+      at = element_at v.found m.found f m.left p v.at m.at;
     }
 
-add_member : (f : Bool) (es : List Step) (st : List Kind) (s b n c r : List ℕ) → Follows Map f false s b
+add_member : (f : Bool) {es : List Step} {st : List Kind} {s b n c r : List ℕ} → Follows Map f false s b
     → Names b n c → (v : FoundValue es (Map ∷ st) c r) → FoundMembers false v.left st v.at.end r
     → FoundMembers f (key n ∷ es) st s r
-add_member f es st s b n c r p q v m =
+add_member f {n = n} p q v m =
     record {
       found = member n v.found m.found;
       left = m.left;
-      is = joined (key n) es (events v.found) v.left (member_events m.found) m.left v.is m.is;
-      at = member_at n v.found m.found f v.left m.left st s b c r p q v.at m.at;
+      is = joined (key n) (events v.found) (member_events m.found) m.left v.is m.is;
+      at = member_at v.found m.found f m.left p q v.at m.at;
     }
 
-leaf_found : (t : Tree) (e : Step) (es : List Step) (st : List Kind) (s b r : List ℕ) → e ∷ es ≡ events t ++ es
+leaf_found : (t : Tree) (e : Step) {es : List Step} {st : List Kind} {s b r : List ℕ} → e ∷ es ≡ events t ++ es
     → Starts s e b → ValueAt t e b b → Runs after es st b r → FoundValue (e ∷ es) st s r
-leaf_found t e es st s b r i k v h = record { found = t; left = es; is = i; at = leaf_at t e es st s b r k v h }
+leaf_found t e {es = es} i k v h = record { found = t; left = es; is = i; at = leaf_at e k v h }
 
 mutual
   find_value : (n : ℕ) (es : List Step) (st : List Kind) (s r : List ℕ) → length es ≤ n → Runs due es st s r → FoundValue es st s r
   find_value n [] st s r l h = absurd h
-  find_value n (step.null ∷ es) st s r l h = leaf_found null step.null es st s h.0 r refl h.1 (refl, refl) h.2
-  find_value n (boolean x ∷ es) st s r l h = leaf_found (truth x) (boolean x) es st s h.0 r refl h.1 (refl, refl) h.2
-  find_value n (string x ∷ es) st s r l h = leaf_found (str x) (string x) es st s h.0 r refl h.1 (refl, refl) h.2
-  find_value n (negative z ∷ es) st s r l h = leaf_found (neg z) (negative z) es st s h.0 r refl h.1 (refl, refl) h.2
-  find_value n (nonnegative m ∷ es) st s r l h = leaf_found (nonneg m) (nonnegative m) es st s h.0 r refl h.1 (refl, refl) h.2
-  find_value n (float x ∷ es) st s r l h = leaf_found (num x) (float x) es st s h.0 r refl h.1 (refl, refl) h.2
+  find_value n (step.null ∷ es) st s r l h = leaf_found null step.null refl h.1 (refl, refl) h.2
+  find_value n (boolean x ∷ es) st s r l h = leaf_found (truth x) (boolean x) refl h.1 (refl, refl) h.2
+  find_value n (string x ∷ es) st s r l h = leaf_found (str x) (string x) refl h.1 (refl, refl) h.2
+  find_value n (negative z ∷ es) st s r l h = leaf_found (neg z) (negative z) refl h.1 (refl, refl) h.2
+  find_value n (nonnegative m ∷ es) st s r l h = leaf_found (nonneg m) (nonnegative m) refl h.1 (refl, refl) h.2
+  find_value n (float x ∷ es) st s r l h = leaf_found (num x) (float x) refl h.1 (refl, refl) h.2
   find_value (suc n) (seq ∷ es) st s r l h =
       let f = find_elements n true es st h.0 r (omega arith) h.2 in
       record {
         found = list f.found;
         left = f.left;
         is = ap (λ z. seq ∷ z) (f.is ∙ sym (append_assoc (child_events f.found) (finish ∷ []) f.left));
-        at = list_at f.found f.left st s h.0 r h.1 f.at;
+        at = list_at h.1 f.at;
       }
   find_value (suc n) (map ∷ es) st s r l h =
       let f = find_members n true es st h.0 r (omega arith) h.2 in
@@ -268,7 +269,7 @@ mutual
         found = members f.found;
         left = f.left;
         is = ap (λ z. map ∷ z) (f.is ∙ sym (append_assoc (member_events f.found) (finish ∷ []) f.left));
-        at = object_at f.found f.left st s h.0 r h.1 f.at;
+        at = object_at h.1 f.at;
       }
   find_value zero (seq ∷ es) st s r l h = absurd (omega arith)
   find_value zero (map ∷ es) st s r l h = absurd (omega arith)
@@ -284,10 +285,10 @@ mutual
       record { found = no_trees; left = es; is = refl; at = h }
   find_elements (suc n) true (element ∷ es) st s r l h =
       let v = find_value n es (Seq ∷ st) h.0 r (omega arith) h.2 in
-      add_element true es st s h.0 r h.1 v (find_elements n false v.left st v.at.end r (shorter n es _ h.0 r v (omega arith)) v.at.is_rest)
+      add_element true h.1 v (find_elements n false v.left st v.at.end r (shorter n es _ h.0 r v (omega arith)) v.at.is_rest)
   find_elements (suc n) false (element ∷ es) st s r l h =
       let v = find_value n es (Seq ∷ st) h.0 r (omega arith) h.2 in
-      add_element false es st s h.0 r h.1 v (find_elements n false v.left st v.at.end r (shorter n es _ h.0 r v (omega arith)) v.at.is_rest)
+      add_element false h.1 v (find_elements n false v.left st v.at.end r (shorter n es _ h.0 r v (omega arith)) v.at.is_rest)
   find_elements zero true (element ∷ es) st s r l h = absurd (omega arith)
   find_elements zero false (element ∷ es) st s r l h = absurd (omega arith)
   find_elements n _ _ st s r l h = absurd h
@@ -300,11 +301,11 @@ mutual
       record { found = no_members; left = es; is = refl; at = h }
   find_members (suc n) true (key k ∷ es) st s r l h =
       let v = find_value n es (Map ∷ st) h.1 r (omega arith) h.4 in
-      add_member true es st s h.0 k h.1 r h.2 h.3 v
+      add_member true h.2 h.3 v
       (find_members n false v.left st v.at.end r (shorter n es _ h.1 r v (omega arith)) v.at.is_rest)
   find_members (suc n) false (key k ∷ es) st s r l h =
       let v = find_value n es (Map ∷ st) h.1 r (omega arith) h.4 in
-      add_member false es st s h.0 k h.1 r h.2 h.3 v
+      add_member false h.2 h.3 v
       (find_members n false v.left st v.at.end r (shorter n es _ h.1 r v (omega arith)) v.at.is_rest)
   find_members zero true (key k ∷ es) st s r l h = absurd (omega arith)
   find_members zero false (key k ∷ es) st s r l h = absurd (omega arith)
@@ -316,9 +317,10 @@ pub record Whole (e : Step) (later : List Step) (s r : List ℕ) : Type 0 where
   pub is : e ∷ later ≡ events tree
   pub is_value : ValueAt tree e s r
 
-leaf_whole : (t : Tree) (e : Step) (es : List Step) (s r : List ℕ) → events t ≡ e ∷ []
+leaf_whole : (t : Tree) (e : Step) {es : List Step} {s r : List ℕ} → events t ≡ e ∷ []
     → ((z : List ℕ) → z ≡ s → ValueAt t e s z) → Runs after es [] s r → Whole e es s r
-leaf_whole t e es s r i v h = let n = nothing_left es s r h in record { tree = t; is = ap (λ z. e ∷ z) n.0 ∙ sym i; is_value = v r n.1 }
+leaf_whole t e {es = es} {s = s} {r = r} i v h =
+    let n = nothing_left es s r h in record { tree = t; is = ap (λ z. e ∷ z) n.0 ∙ sym i; is_value = v r n.1 }
 
 list_whole : (es : List Step) (s r : List ℕ) → Runs first es (Seq ∷ []) s r → Whole seq es s r
 list_whole es s r h =
@@ -347,11 +349,11 @@ object_whole es s r h =
 pub whole_at : (x : lexed.Event) (scratch : List ℕ) (es : List Step) (s r : List ℕ)
     → Runs (first_or_after (is_some (opened_kind (event_of_token x scratch)))) es
     (with_opened (opened_kind (event_of_token x scratch)) []) s r → Whole (event_of_token x scratch) es s r
-whole_at variant.Null scratch es s r h = leaf_whole null step.null es s r refl (λ z i. (refl, i)) h
-whole_at (variant.Bool b) scratch es s r h = leaf_whole (truth b) (boolean b) es s r refl (λ z i. (refl, i)) h
-whole_at (variant.Negative n) scratch es s r h = leaf_whole (neg n) (negative n) es s r refl (λ z i. (refl, i)) h
-whole_at (variant.Nonnegative n) scratch es s r h = leaf_whole (nonneg n) (nonnegative n) es s r refl (λ z i. (refl, i)) h
-whole_at (variant.Number x) scratch es s r h = leaf_whole (num x.now) (float x.now) es s r refl (λ z i. (refl, i)) h
-whole_at (variant.Str t) scratch es s r h = leaf_whole (str _) (event_of_token (variant.Str t) scratch) es s r refl (λ z i. (refl, i)) h
+whole_at variant.Null scratch es s r h = leaf_whole null step.null refl (λ z i. (refl, i)) h
+whole_at (variant.Bool b) scratch es s r h = leaf_whole (truth b) (boolean b) refl (λ z i. (refl, i)) h
+whole_at (variant.Negative n) scratch es s r h = leaf_whole (neg n) (negative n) refl (λ z i. (refl, i)) h
+whole_at (variant.Nonnegative n) scratch es s r h = leaf_whole (nonneg n) (nonnegative n) refl (λ z i. (refl, i)) h
+whole_at (variant.Number x) scratch es s r h = leaf_whole (num x.now) (float x.now) refl (λ z i. (refl, i)) h
+whole_at (variant.Str t) scratch es s r h = leaf_whole (str _) (event_of_token (variant.Str t) scratch) refl (λ z i. (refl, i)) h
 whole_at variant.SeqStart scratch es s r h = list_whole es s r h
 whole_at variant.MapStart scratch es s r h = object_whole es s r h

@@ -37,7 +37,7 @@ item_and m n = record {
 abbrev pub tuple_meaning : {V W : Type 0} → ItemsMeaning V → (W → V) → Meaning W
 tuple_meaning n items =
     meaning_with (λ w. n.content (items w)) (tuple_of n.from_trees) (λ t w. TupleReads n.reads t (items w))
-    (λ t w. tuple-given n.reads n.from_trees n.content n.reads_agrees t (items w))
+    (λ t w. tuple-given n.reads_agrees t (items w))
 
 -- from s to r stand elements and a closing bracket, and `of` returns the content c for the elements; `first` says
 -- that the opening bracket was just taken

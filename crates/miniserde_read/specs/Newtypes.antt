@@ -15,7 +15,7 @@ abbrev pub checked_meaning : {V W : Type 0} → (m : Meaning V) → (m.Content �
 checked_meaning m accepts inner =
     meaning_with (λ w. m.content (inner w)) (checked_of accepts m.from_tree)
     (λ t w. m.reads t (inner w) × (accepts (m.content (inner w)) ≡ true))
-    (λ t w. checked-given accepts m.from_tree (m.reads t (inner w)) t (m.content (inner w)) (m.reads_agrees t (inner w)))
+    (λ t w. checked-given accepts (m.from_tree t) (m.reads_agrees t (inner w)))
 
 -- Two meanings of one type are the same up to the type of their contents: each content of n is one of m (`there`), and
 -- each value and each tree gives the same.

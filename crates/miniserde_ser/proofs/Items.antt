@@ -36,27 +36,33 @@ AllInRange-snoc f (y ∷ ys) x h r = (h.0, AllInRange-snoc f ys x h.1 r)
 pub took : {A : Type 0} (xs : List A) (i : ℕ) (x : A) → i < length xs → x ≡ get_or xs i x → take (i + 1) xs ≡ take i xs ++ x ∷ []
 took xs i x h e = take_more xs i x h ∙ ap (λ y. take i xs ++ y ∷ []) (sym e)
 
+-- A container has n children so far: the text is `before` and then their text, and `first` says that there are none.
+pub record ChildrenWritten (before theirs : List ℕ) (n : ℕ) (text : List ℕ) (first : Bool) : Type 0 where
+  pub is : text ≡ before ++ theirs
+  pub start : n ≡ 0 → first ≡ true
+  pub later : 0 < n → first ≡ false
+
 -- what a turn of a loop over a list appends to the text of the n elements so far
-pub compact_children_turn : {A : Type 0} (f : A → Tree) (xs : List A) (x : A) (n : ℕ) (b : Bool)
-    (pre old mid new : List ℕ) → length xs ≡ n → (n ≡ 0 → b ≡ true) → (0 < n → b ≡ false)
-    → old ≡ pre ++ compact_children (trees_of f xs) → mid ≡ old ++ cond b [] (44 ∷ []) → new ≡ mid ++ compact (f x)
+pub compact_children_turn : {A : Type 0} (f : A → Tree) (xs : List A) (x : A) {n : ℕ} {b : Bool}
+    {pre old mid new : List ℕ} → length xs ≡ n → ChildrenWritten pre (compact_children (trees_of f xs)) n old b
+    → mid ≡ old ++ cond b [] (44 ∷ []) → new ≡ mid ++ compact (f x)
     → new ≡ pre ++ compact_children (trees_of f (xs ++ x ∷ []))
-compact_children_turn f xs x n b pre old mid new len s l o m w =
-    let grown = compact_children-snoc f xs x b (λ z. s (sym len ∙ z)) (λ z. l (omega (arith, len))) in
-    rw (w, m, o, grown) (simp append_assoc refl)
+compact_children_turn f xs x {b = b} len o m w =
+    let grown = compact_children-snoc f xs x b (λ z. o.start (sym len ∙ z)) (λ z. o.later (omega (arith, len))) in
+    rw (w, m, o.is, grown) (simp append_assoc refl)
 
 -- The elements xs are x and then `later`, which has one at least. If old and the text of xs make all, so do old, the text
 -- of x, a comma and the text of `later`.
-pub compact_children_later : {A : Type 0} (f : A → Tree) (xs later : List A) (x : A) (all old mid new : List ℕ)
-    → xs ≡ x ∷ later → 0 < length later → old ++ compact_children (trees_of f xs) ≡ all → mid ≡ old ++ compact (f x)
-    → new ≡ mid ++ (44 ∷ []) → new ++ compact_children (trees_of f later) ≡ all
-compact_children_later f xs [] x all old mid new e h o m n = absurd (omega (arith, h))
-compact_children_later f xs (y ∷ ys) x all old mid new e h o m n =
+pub compact_children_later : {A : Type 0} (f : A → Tree) {xs : List A} (later : List A) {x : A} {all : List ℕ} (old : List ℕ)
+    {mid new : List ℕ} → xs ≡ x ∷ later → 0 < length later → old ++ compact_children (trees_of f xs) ≡ all
+    → mid ≡ old ++ compact (f x) → new ≡ mid ++ (44 ∷ []) → new ++ compact_children (trees_of f later) ≡ all
+compact_children_later f [] old e h o m n = absurd (omega (arith, h))
+compact_children_later f (y ∷ ys) old e h o m n =
     rw (n, m) (simp append_assoc refl) ∙ ap (λ z. old ++ compact_children (trees_of f z)) (sym e) ∙ o
 
 -- what a last piece makes of the text of all items before it
-pub appends_text : (old new : WriterView) (bs whole : List ℕ) (first : Bool) (r : Result (Unit {0}) Error)
+pub appends_text : {old new : WriterView} {bs whole : List ℕ} {first : Bool} {r : Result (Unit {0}) Error}
     → Appends old bs first r new → old.text ++ bs ≡ whole → OnOk r (new.text ≡ whole)
-appends_text old new bs whole first r a h =
+appends_text {old = old} {new = new} {bs = bs} {first = first} {r = r} a h =
     on_ok_weaker r (λ (e : new ≡ with_first_flag (after_append old bs new.capacity) first).
     ap (λ (w : WriterView). w.text) e ∙ h) a.ok

@@ -6,6 +6,7 @@ use Rattle.miniserde_model.specs.Tree.{Tree}
 use Rattle.miniserde_model.specs.Compact.{compact, string_text, compact_members, compact_more_members}
 use Rattle.miniserde_model.specs.InRange.{InRange, MembersInRange}
 use Rattle.miniserde_ser.specs.Trees.{members_of}
+use Rattle.miniserde_ser.proofs.Items.{ChildrenWritten}
 
 module _ {K V : Type 0} (text : K → List ℕ) (f : V → Tree) where
   compact_more_members-snoc : (es : List (K × V)) (e : K × V)
@@ -23,14 +24,13 @@ module _ {K V : Type 0} (text : K → List ℕ) (f : V → Tree) where
       rw later (grind (arith, append_assoc {A = ℕ}, compact_more_members-snoc es e))
 
   -- what a turn of a loop over entries appends
-  pub compact_members_step : (es : List (K × V)) (e : K × V) (n : ℕ) (b : Bool) (pre old mid new : List ℕ)
-      → length es ≡ n → (n ≡ 0 → b ≡ true) → (0 < n → b ≡ false)
-      → old ≡ pre ++ compact_members (members_of text f es)
+  pub compact_members_step : (es : List (K × V)) (e : K × V) {n : ℕ} {b : Bool} {pre old mid new : List ℕ}
+      → length es ≡ n → ChildrenWritten pre (compact_members (members_of text f es)) n old b
       → mid ≡ old ++ ((cond b [] (44 ∷ []) ++ string_text (text e.0)) ++ 58 ∷ []) → new ≡ mid ++ compact (f e.1)
       → new ≡ pre ++ compact_members (members_of text f (es ++ e ∷ []))
-  compact_members_step es e n b pre old mid new len s l o m w =
-      let grown = compact_members-snoc es e b (λ z. s (sym len ∙ z)) (λ z. l (omega (arith, len))) in
-      rw (w, m, o, grown) (simp append_assoc refl)
+  compact_members_step es e {b = b} len o m w =
+      let grown = compact_members-snoc es e b (λ z. o.start (sym len ∙ z)) (λ z. o.later (omega (arith, len))) in
+      rw (w, m, o.is, grown) (simp append_assoc refl)
 
   -- the members so far have trees, and names that are texts
   pub MembersInRange_step : (es : List (K × V)) (e : K × V) → MembersInRange (members_of text f es)

@@ -59,6 +59,6 @@ all_more P [] x h p = (p, tt)
 all_more P (y ∷ xs) x h p = (h.0, all_more P xs x h.1 p)
 
 -- if f on xs and x gives what g on ys and y gives, it does so on the lists with x and y appended
-pub map_more : {A B C : Type 0} (f : A → C) (g : B → C) (xs zs : List A) (x : A) (ys : List B) (y : B)
+pub map_more : {A B C : Type 0} (f : A → C) (g : B → C) (xs : List A) {zs : List A} {x : A} (ys : List B) {y : B}
     → zs ≡ xs ++ x ∷ [] → map f xs ≡ map g ys → f x ≡ g y → map f zs ≡ map g (ys ++ y ∷ [])
-map_more f g xs zs x ys y z h e = rw (z, map-append f xs (x ∷ []), map-append g ys (y ∷ []), h, e) refl
+map_more f g xs {x = x} ys {y = y} z h e = rw (z, map-append f xs (x ∷ []), map-append g ys (y ∷ []), h, e) refl

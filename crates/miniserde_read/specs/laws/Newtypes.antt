@@ -1,7 +1,6 @@
 -- What a tree gives as a newtype is what it gives as the inner type, where the check accepts that.
 use Rattle.std.proofs.Common.{◌≡◌, Bool, true, false, cond, Option, Some, None, refl, ap, subst}
 use Rattle.std.specs.Prelude.{◌↔◌, option_and_then}
-use Rattle.miniserde_model.specs.Tree.{Tree}
 
 only : {C : Type 0} (b : Bool) (c d : C) → cond b (Some c) None ≡ Some d → (b ≡ true) × (c ≡ d)
 only true c d e = (refl, cc)
@@ -16,8 +15,9 @@ there : {C : Type 0} (p : C → Bool) (o : Option C) (c : C) → o ≡ Some c �
     → option_and_then (λ c. cond (p c) (Some c) None) o ≡ Some c
 there p o c e h = rw (e, h) refl
 
--- a tree means the value inside, and the check accepts that, exactly if the tree gives what the check accepts
-pub checked-given : {C : Type 0} (p : C → Bool) (of : Tree → Option C) (R : Type 0) (t : Tree) (c : C)
-    → (R ↔ (of t ≡ Some c)) → (R × (p c ≡ true)) ↔ (option_and_then (λ c. cond (p c) (Some c) None) (of t) ≡ Some c)
-checked-given p of R t c agrees =
-    (λ h. there p (of t) c (agrees.0 h.0) h.1, λ e. let h = back p (of t) c e in (agrees.1 h.0, h.1))
+-- If R says that a tree, which gives o, means the value inside: it does, and the check accepts the value's content c,
+-- exactly if o is that content and the check accepts it.
+pub checked-given : {C : Type 0} (p : C → Bool) {R : Type 0} (o : Option C) {c : C} → (R ↔ (o ≡ Some c))
+    → (R × (p c ≡ true)) ↔ (option_and_then (λ c. cond (p c) (Some c) None) o ≡ Some c)
+checked-given p o {c = c} agrees =
+    (λ h. there p o c (agrees.0 h.0) h.1, λ e. let h = back p o c e in (agrees.1 h.0, h.1))

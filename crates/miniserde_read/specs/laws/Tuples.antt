@@ -22,8 +22,8 @@ module _ {T V A B : Type 0} (R : Tree → T → Type 0) (S : Trees → V → Typ
   )
 
 -- if f returns the content of items exactly for the children that mean them, `tuple_of f` does for their list
-pub tuple-given : {V C : Type 0} (R : Trees → V → Type 0) (f : Trees → Option C) (content : V → C)
+pub tuple-given : {V C : Type 0} {R : Trees → V → Type 0} {f : Trees → Option C} {content : V → C}
     → ((ts : Trees) (v : V) → R ts v ↔ (f ts ≡ Some (content v))) → (t : Tree) (v : V) → TupleReads R t v
     ↔ (tuple_of f t ≡ Some (content v))
-tuple-given R f content h (list ts) v = h ts v
-tuple-given R f content h t v = (λ e. absurd e, λ e. absurd (cc))
+tuple-given h (list ts) v = h ts v
+tuple-given h t v = (λ e. absurd e, λ e. absurd (cc))

@@ -9,4 +9,4 @@ read_case-requires-clause-event g c = start_event _ _ _ c.in_ok-token.ensures.ok
 
 pub returns-clause-invalid : goal.returns-clause-invalid
 returns-clause-invalid g c = λ e t d b r h v. c.read_case.ensures.invalid e t r
-    (due_front c.args.source.now.rest b c.token.new.self.rest r d _ t c.in_ok-token.ensures.ok h v)
+    (due_front r d _ t c.in_ok-token.ensures.ok h v)

@@ -69,7 +69,12 @@ returns-clause-ok g c =
     IfOk-weaker c.end.result (λ _. IsWhitespace c.feed_from.new.source.rest)
     (λ _. (t : Tree) × IsJson c.args.j.now t × AdvancesBy (v c.args.place.now) (events t)
     (v c.feed_from.new.place))
-    (λ _ w. (r.0, at_json c.args.j.now r.0 ev s c.feed_from.new.source.rest k r.1 w, r.2)) c.end.ensures.ok
+    (λ _ w. (
+      r.0,
+      at_json c.args.j.now r.0
+          (record { event = ev; behind = s; end = c.feed_from.new.source.rest; starts = k; is_value = r.1; is_space = w }),
+      r.2,
+    )) c.end.ensures.ok
 
 pub returns-clause-invalid : goal.returns-clause-invalid
 returns-clause-invalid g c = λ e t h.

@@ -42,5 +42,4 @@ loop-kind-preserved c =
 pub returns-clause-ok : goal.returns-clause-ok
 returns-clause-ok c = λ x.
     let n : innermost c.loop-kind.stack ≡ None = sym c.top.ensures ∙ c.in_default.is in
-    skip_ok c.args.token x c.args.source.now.rest c.loop-kind.source.rest c.loop-kind.first c.loop-kind.stack n
-    (c.loop-kind.invariant.reaches x)
+    skip_ok c.args.token x c.loop-kind.first c.loop-kind.stack n (c.loop-kind.invariant.reaches x)

@@ -4,7 +4,7 @@ use Rattle.std.proofs.Common.{subst}
 use Rattle.std.proofs.lemmas.Result.{err_from_is_err_and}
 use Rattle.miniserde_model.specs.Whitespace.{IsWhitespace}
 use Rattle.miniserde_read.proofs.Same.{value_same}
-use Rattle.miniserde_read.proofs.Json.{json_at, json_front, at_json}
+use Rattle.miniserde_read.proofs.Json.{JsonAt, json_at, json_front, at_json}
 use Rattle.miniserde_read.proofs.json_text.check_json.Goals as goal
 
 pub returns-in_err-skip_due-clause-invalid : goal.returns-in_err-skip_due-clause-invalid
@@ -25,4 +25,12 @@ returns-in_err-end-clause-invalid c = λ e t h.
 pub returns-clause-ok : goal.returns-clause-ok
 returns-clause-ok c =
     let v = rw c.new-whole.ensures.rest at c.in_ok-skip_due.ensures.ok in
-    (v.one, at_json c.args.j.now v.one v.event v.behind _ v.starts v.is_value c.in_ok-end.ensures.ok)
+    let all : JsonAt c.args.j.now v.one = record {
+      event = v.event;
+      behind = v.behind;
+      end = _;
+      starts = v.starts;
+      is_value = v.is_value;
+      is_space = c.in_ok-end.ensures.ok;
+    } in
+    (v.one, at_json c.args.j.now v.one all)

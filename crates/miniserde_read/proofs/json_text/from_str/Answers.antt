@@ -7,7 +7,7 @@ use Rattle.miniserde_model.proofs.Unique.{one_tree}
 use Rattle.miniserde_model.specs.Tree.{Tree}
 use Rattle.miniserde_model.specs.Whitespace.{IsWhitespace}
 use Rattle.miniserde_read.proofs.Same.{value_same}
-use Rattle.miniserde_read.proofs.Json.{json_at, json_front, at_json}
+use Rattle.miniserde_read.proofs.Json.{JsonAt, json_at, json_front, at_json}
 use Rattle.miniserde_read.proofs.Lacking.{has_escape}
 use Rattle.miniserde_read.proofs.json_text.from_str.Given.{Over}
 use Rattle.miniserde_read.proofs.json_text.from_str.Goals as goal
@@ -59,7 +59,15 @@ returns-in_err-end-clause-invalid g c = λ e t h. nothing_meant g t (returns-in_
 pub returns-clause-content : goal.returns-clause-content
 returns-clause-content g c =
     let v = rw c.new-source.ensures.rest at c.in_ok-value.ensures.ok in
-    (v.one, at_json c.args.j.now v.one v.event v.behind _ v.starts v.is_value c.in_ok-end.ensures.ok, v.gives)
+    let all : JsonAt c.args.j.now v.one = record {
+      event = v.event;
+      behind = v.behind;
+      end = _;
+      starts = v.starts;
+      is_value = v.is_value;
+      is_space = c.in_ok-end.ensures.ok;
+    } in
+    (v.one, at_json c.args.j.now v.one all, v.gives)
 
 pub returns-clause-ok : goal.returns-clause-ok
 returns-clause-ok g c = let r = returns-clause-content g c in (r.0, r.1, (g.T.FromJson.means.reads_agrees r.0 c.in_ok-value.value).1 r.2)

@@ -38,7 +38,7 @@ returns-in_err-value-clause-invalid g c = λ e.
 
 pub loop-table-smaller : goal.loop-table-smaller
 loop-table-smaller g c = member_less _ _ _ c.in_ok-name.ensures.ok c.in-Some.is
-    (due_reads g.V.FromJson.means.from_tree _ _ _ _ _ c.in_ok-token.ensures.ok c.in_ok-value.ensures.ok)
+    (due_reads g.V.FromJson.means.from_tree _ c.in_ok-token.ensures.ok c.in_ok-value.ensures.ok)
 
 pub loop-table-preserved : goal.loop-table-preserved
 loop-table-preserved g c =
@@ -54,7 +54,7 @@ loop-table-preserved g c =
       going = c.in_ok-value.ensures.going;
       goes = rw put (entry_goes g.M.Key.MapKey.read code g.V.FromJson.means.from_tree c.loop-table.invariant.goes _ _
           c.in_ok-name.ensures.ok c.in-Some.is _ _ _ (rw c.text.ensures at c.in_ok-key.ensures.value)
-          (due_reads g.V.FromJson.means.from_tree _ _ _ _ _ c.in_ok-token.ensures.ok c.in_ok-value.ensures.ok));
+          (due_reads g.V.FromJson.means.from_tree _ c.in_ok-token.ensures.ok c.in_ok-value.ensures.ok));
     }
 
 pub returns-clause-ok : goal.returns-clause-ok

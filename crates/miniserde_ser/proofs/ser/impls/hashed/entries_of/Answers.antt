@@ -14,8 +14,8 @@ loop-key-preserved g c =
     let inv = c.loop-key.invariant in
     let items = c.in_ok-push.ensures.items in
     rw (map-append deref_pair c.loop-key.yielded ((c.in-Some.key, c.in-Some.value) ∷ [])) (record {
-      names = map_more (λ r. string_bytes r.0) (λ e. g.K.MapKey.text e.0) _ _ _ done _ items inv.names c.in_ok-name.ensures.text;
-      trees = map_more (λ r. g.V.Serialize.tree r.1.now) (λ e. g.V.Serialize.tree e.1) _ _ _ done _ items inv.trees refl;
+      names = map_more (λ r. string_bytes r.0) (λ e. g.K.MapKey.text e.0) _ done items inv.names c.in_ok-name.ensures.text;
+      trees = map_more (λ r. g.V.Serialize.tree r.1.now) (λ e. g.V.Serialize.tree e.1) _ done items inv.trees refl;
       real = all_more (λ e. g.K.Ranged.real e.0) done _ inv.real c.name_of.ensures.real;
     })
 

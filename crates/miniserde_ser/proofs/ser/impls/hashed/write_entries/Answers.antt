@@ -17,8 +17,8 @@ loop-entry-preserved g c =
     let at = rw c.as_str.ensures.value at c.in_ok-key.ensures.appends.ok in
     let utf8 = rw c.as_str.ensures.value at c.in_ok-key.ensures.utf8 in
     rw (took entries i entry (omega arith) c.entry-item.is) (record {
-      text = compact_members_step string_bytes f (take i entries) entry i c.loop-entry.w.first _ _ _ _
-          (length-take-le i entries (omega arith)) inv.start inv.later inv.text (ap (λ s. s.text) at)
+      text = compact_members_step string_bytes f (take i entries) entry (length-take-le i entries (omega arith))
+          (record { is = inv.text; start = inv.start; later = inv.later }) (ap (λ s. s.text) at)
           c.in_ok-begin.ensures.ok;
       all_in_range = MembersInRange_step string_bytes f (take i entries) entry inv.all_in_range utf8 c.in_ok-begin.ensures.in_range;
       start = λ z. absurd (omega arith);

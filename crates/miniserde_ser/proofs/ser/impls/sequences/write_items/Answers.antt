@@ -13,7 +13,7 @@ loop-item-preserved-in_ok-append g c =
     let inv = c.loop-item.invariant in
     let split = c.in-Some.ensures.cases in
     record {
-      text = compact_children_later f c.loop-item.rest.now c.in-Some.later.now c.in-Some.item.now _ _ _ _ split.0
+      text = compact_children_later f c.in-Some.later.now _ split.0
           (grind (arith, nat_tests, c.is_empty.ensures, c.if-not-is_empty.true)) inv.text c.in_ok-begin.ensures.ok
           (ap (λ s. s.text) c.in_ok-append.ensures.ok);
       in_range = λ r. inv.in_range (subst (λ xs. AllInRange (trees_of f xs)) (sym split.0) (c.in_ok-begin.ensures.in_range, r));

@@ -1,6 +1,6 @@
 -- A turn writes one member: `compact_members_step` gives the text with it, and `MembersInRange_step` says that it is
 -- in range. The text that `key` writes is `K.text` of the key that the iterator yields.
-use Rattle.std.proofs.Common.{◌≡◌, ◌∷◌, [], rules, arith, ap, length, length-append, map}
+use Rattle.std.proofs.Common.{◌≡◌, ◌∷◌, [], rules, arith, ap, length-append, map}
 use Rattle.std.specs.Map.Iter.{deref_pair}
 use Rattle.std.proofs.lemmas.List.{map-append, length-map}
 use Rattle.miniserde_ser.proofs.Members.{compact_members_step, MembersInRange_step}
@@ -17,7 +17,7 @@ loop-key-preserved g c =
     let utf8 = rw named at c.in_ok-key.ensures.utf8 in
     rw (map-append deref_pair done ((c.in-Some.key, c.in-Some.value) ∷ [])) (record {
       text = compact_members_step text f (map deref_pair done) (c.in-Some.key.now, c.in-Some.value.now)
-          (length done) c.loop-key.w.first _ _ _ _ (length-map done deref_pair) inv.start inv.later inv.text
+          (length-map done deref_pair) (record { is = inv.text; start = inv.start; later = inv.later })
           (ap (λ s. s.text) at) c.in_ok-begin.ensures.ok;
       all_in_range = MembersInRange_step text f (map deref_pair done) (c.in-Some.key.now, c.in-Some.value.now)
           inv.all_in_range utf8 c.in_ok-begin.ensures.in_range;

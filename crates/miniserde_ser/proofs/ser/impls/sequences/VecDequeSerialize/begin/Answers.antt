@@ -13,8 +13,8 @@ loop-x-preserved g c =
     let inv = c.loop-x.invariant in
     let e = c.in_ok-element.ensures.ok in
     rw (map-append (λ x. x.now) done (c.in-Some.x ∷ [])) (record {
-      text = compact_children_turn f so_far c.in-Some.x.now _ c.loop-x.w.first _ _ _ _
-          (length-map done (λ x. x.now)) inv.start inv.later inv.text (ap (λ s. s.text) e) c.in_ok-begin.ensures.ok;
+      text = compact_children_turn f so_far c.in-Some.x.now (length-map done (λ x. x.now))
+          (record { is = inv.text; start = inv.start; later = inv.later }) (ap (λ s. s.text) e) c.in_ok-begin.ensures.ok;
       all_in_range = AllInRange-snoc f so_far c.in-Some.x.now inv.all_in_range c.in_ok-begin.ensures.in_range;
       start = λ z. absurd (omega (arith, length-append done (c.in-Some.x ∷ []), z));
       later = λ _. c.in_ok-begin.ensures.first (ap (λ s. s.first) e);

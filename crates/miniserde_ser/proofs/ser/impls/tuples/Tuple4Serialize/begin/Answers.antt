@@ -5,7 +5,7 @@ use Rattle.miniserde_ser.proofs.Items.{appends_text}
 use Rattle.miniserde_ser.proofs.ser.impls.tuples.Tuple4Serialize.begin.Goals as goal
 
 pub returns-clause-ok : goal.returns-clause-ok
-returns-clause-ok g c = appends_text c.write_item-4.new.w _ _ _ _ c.punctuate.result c.punctuate.ensures
+returns-clause-ok g c = appends_text c.punctuate.ensures
     (rw (
       c.in_ok-write_item-4.ensures.ok,
       c.in_ok-write_item-3.ensures.ok,
