@@ -7,6 +7,7 @@ use Rattle.miniserde_model.specs.Tree.{Tree}
 use Rattle.miniserde_model.specs.Number.{IsDigit, IsInt, IsMinus, IsFraction, IsSign, IsExponent, IsNumberText, IsNumber, leaf}
 use Rattle.miniserde_model.specs.Bytes.{is_number_byte, StopsAt}
 use Rattle.miniserde_model.proofs.Runs.{AllPass, same_run, pass_append}
+use Rattle.miniserde_model.proofs.Prefixes.{Prefix}
 
 digit_byte : (c : ℕ) → IsDigit c → is_number_byte c ≡ true
 digit_byte c h = grind (arith, nat_tests)
@@ -50,8 +51,7 @@ number_pass x n =
     rw n.text (pass_append is_number_byte n.minus _ (minus_pass n.minus n.is_minus) more)
 
 -- if a is a number with the leaf t, b one with u, x and y end numbers, and `a ++ x` is `b ++ y`: t is u, and x is y
-pub same_number : (a b x y : List ℕ) (t u : Tree) → IsNumber a t → IsNumber b u → StopsAt is_number_byte x
-    → StopsAt is_number_byte y → a ++ x ≡ b ++ y → (t ≡ u) × (x ≡ y)
-same_number a b x y t u p q sx sy e =
+pub same_number : (t u : Tree) → Prefix (λ a. IsNumber a t) (λ b. IsNumber b u) (StopsAt is_number_byte) (t ≡ u)
+same_number t u a b x y p q sx sy e =
     let run = same_run is_number_byte a b x y (number_pass a p.0) (number_pass b q.0) sx sy e in
     (sym p.1 ∙ ap leaf run.0 ∙ q.1, run.1)

@@ -48,13 +48,13 @@ or_else_none (Some t) = refl
 abbrev Alike : Members → Members → Type 0
 Alike ms ns = (q : List ℕ) → last_of q ms ≡ last_of q ns
 
-tails_alike : (name : List ℕ) (t : Tree) (ms ns : Members) → BeginsAbove name ms → Rise ms → BeginsAbove name ns
-    → Rise ns → Alike (member name t ms) (member name t ns) → Alike ms ns
-tails_alike name t ms ns bm rm bn rn h q = go (bytes_eq name q) refl
+tails_alike : (name : List ℕ) (t : Tree) (ms ns : Members) → Rise (member name t ms) → Rise (member name t ns)
+    → Alike (member name t ms) (member name t ns) → Alike ms ns
+tails_alike name t ms ns r s h q = go (bytes_eq name q) refl
   where
     go : (b : Bool) → bytes_eq name q ≡ b → last_of q ms ≡ last_of q ns
     go true e = let same : name ≡ q = (bytes_eq-Decides name q).0 e in
-        subst (λ z. last_of z ms ≡ last_of z ns) same (absent name ms bm rm ∙ sym (absent name ns bn rn))
+        subst (λ z. last_of z ms ≡ last_of z ns) same (absent name ms r.0 r.1 ∙ sym (absent name ns s.0 s.1))
     go false e = sym (or_else_none (last_of q ms)) ∙ ap (λ y. or_else (last_of q ms) (cond y (Some t) None)) (sym e)
         ∙ h q ∙ ap (λ y. or_else (last_of q ns) (cond y (Some t) None)) e ∙ or_else_none (last_of q ns)
 
@@ -63,7 +63,7 @@ same_first : (name : List ℕ) (t u : Tree) (ms ns : Members) → Rise (member n
 same_first name t u ms ns r s h =
     let some : Some t ≡ Some u = sym (at_first name t ms r.0 r.1) ∙ h name ∙ at_first name u ns s.0 s.1 in
     let same : t ≡ u = cc in
-    (same, tails_alike name t ms ns r.0 r.1 s.0 s.1 (λ q. h q ∙ ap (λ z. last_of q (member name z ns)) (sym same)))
+    (same, tails_alike name t ms ns r s (λ q. h q ∙ ap (λ z. last_of q (member name z ns)) (sym same)))
 
 -- two lists of members whose names rise are equal if each name has the same last tree in both
 pub one_rising : (ms ns : Members) → Rise ms → Rise ns → Alike ms ns → ms ≡ ns

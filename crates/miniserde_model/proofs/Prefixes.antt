@@ -17,6 +17,10 @@ goes_on c = is_space c || is_number_byte c
 abbrev pub Prefix : (P Q Stop : List ℕ → Type 0) (R : Type 0) → Type 0
 Prefix P Q Stop R = (a b x y : List ℕ) → P a → Q b → Stop x → Stop y → a ++ x ≡ b ++ y → R × (x ≡ y)
 
+-- if a of P with x behind it equals b of Q with y behind it, then R holds and x is y
+abbrev pub PrefixFree : (P Q : List ℕ → Type 0) (R : Type 0) → Type 0
+PrefixFree P Q R = (a b x y : List ℕ) → P a → Q b → a ++ x ≡ b ++ y → R × (x ≡ y)
+
 -- the text is empty, or begins with a byte that is neither whitespace nor a byte of a number
 abbrev pub AtEnd : List ℕ → Type 0
 AtEnd x = StopsAt goes_on x
@@ -25,7 +29,7 @@ AtEnd x = StopsAt goes_on x
 abbrev pub Closes : ℕ → List ℕ → Type 0
 Closes z x = (rest : List ℕ) × (x ≡ z ∷ rest)
 
--- P's texts begin with no space
+-- P's texts begin with no whitespace, whatever stands behind them
 pub record Heads (P : List ℕ → Type 0) : Type 0 where
   pub no_space : (b rest : List ℕ) → P b → StopsAt is_space (b ++ rest)
 
@@ -117,10 +121,17 @@ same_between left right same a b x y p q sx sy e =
     let one = same p.inside q.inside (right ∷ x) (right ∷ y) p.is_inside q.is_inside (x, refl) (y, refl) g in
     (one.0, cc (one.1))
 
+-- the byte z is no whitespace, and no text of P begins with whitespace or with z
+pub record StandsApart (z : ℕ) (P : List ℕ → Type 0) : Type 0 where
+  pub byte_no_space : is_space z ≡ false
+  pub heads : Heads P
+  pub begins_not : BeginsNot z P
+
 -- whitespace and a closing bracket are no value
-pub space_no_piece : {Q : List ℕ → Type 0} (z : ℕ) → is_space z ≡ false → Heads Q → BeginsNot z Q
-    → (a b x y : List ℕ) → IsWhitespace a → Spaced Q b → a ++ z ∷ x ≡ b ++ y → ⊥
-space_no_piece z hz hq nq a b x y w q e =
+pub space_no_piece : {Q : List ℕ → Type 0} {z : ℕ} → StandsApart z Q → (a : List ℕ) {b : List ℕ} (x y : List ℕ)
+    → IsWhitespace a → Spaced Q b → a ++ z ∷ x ≡ b ++ y → ⊥
+space_no_piece {z = z} apart a {b = b} x y w q e =
     let one = same_run is_space a q.before (z ∷ x) (q.inner ++ (q.after ++ y)) (whitespace_passes a w)
-    (whitespace_passes q.before q.is_before) hz (hq.no_space q.inner _ q.is_inner) (e ∙ regroup b y q) in
-    nq q.inner (q.after ++ y) x q.is_inner (sym one.1)
+    (whitespace_passes q.before q.is_before) apart.byte_no_space (apart.heads.no_space q.inner _ q.is_inner)
+    (e ∙ regroup b y q) in
+    apart.begins_not q.inner (q.after ++ y) x q.is_inner (sym one.1)

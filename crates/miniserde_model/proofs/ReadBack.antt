@@ -11,10 +11,10 @@ use Rattle.miniserde_model.specs.Value.{Spaced, Named, IsValue, AreElements, Are
 use Rattle.miniserde_model.specs.Step.{Step, boolean, string, negative, nonnegative, float, seq, element, map, key}
 use Rattle.miniserde_model.specs.Step.{finish, events, child_events, member_events}
 use Rattle.miniserde_model.specs.Step as step
-use Rattle.miniserde_model.specs.Lexing.{IsName}
+use Rattle.miniserde_model.specs.Lexing.{IsName, IsByte}
 use Rattle.miniserde_model.specs.declared.kind.Kind.{Kind}
 use Rattle.miniserde_model.specs.declared.kind.Kind.TheVariants.{Seq, Map}
-use Rattle.miniserde_model.specs.private.Reading.{due, first, after, Spells}
+use Rattle.miniserde_model.specs.private.Reading.{due, first, after, Spells, StandsThen}
 
 -- the events es begin with those of a tree, and b with whitespace and a spelling of that tree
 pub record FoundValue (es : List Step) (st : List Kind) (b : List ℕ) : Type 0 where
@@ -81,17 +81,20 @@ shorter n es st b v h = omega (arith, ap length v.is, length-append (events v.fo
 padded : (t : Tree) (x v y : List ℕ) → IsWhitespace x → IsValue t v → IsWhitespace y → Spaced (IsValue t) (x ++ (v ++ y))
 padded t x v y h p k = record { before = x; inner = v; after = y; text = refl; is_before = h; is_inner = p; is_after = k }
 
-opened : (c z : ℕ) (b space part rest inside more : List ℕ) → b ≡ space ++ (part ++ rest) → part ≡ c ∷ []
-    → rest ≡ inside ++ z ∷ more → b ≡ space ++ ((c ∷ (inside ++ z ∷ [])) ++ more)
-opened c z b space part rest inside more e p r = e ∙ ap (λ x. space ++ (x ++ rest)) p ∙ ap (λ x. space ++ (c ∷ x))
+-- the text of a container, which begins with the byte c and ends with the byte z
+opened : {c : ℕ} (z : ℕ) {K : List ℕ → Type 0} {b : List ℕ} (p : StandsThen (IsByte c) K b) (inside more : List ℕ)
+    → p.rest ≡ inside ++ z ∷ more → b ≡ p.space ++ ((c ∷ (inside ++ z ∷ [])) ++ more)
+opened {c = c} z p inside more r = p.text ∙ ap (λ x. p.space ++ (x ++ p.rest)) p.is_part ∙ ap (λ x. p.space ++ (c ∷ x))
     (r ∙ sym (append_assoc inside (z ∷ []) more))
 
-joined : (z : ℕ) (b x v r y m rest : List ℕ) → b ≡ x ++ (v ++ r) → r ≡ y ++ (m ++ z ∷ rest) → b ≡ ((x ++ (v ++ y)) ++ m) ++ z ∷ rest
-joined z b x v r y m rest e f = e ∙ ap (λ s. x ++ (v ++ s)) f ∙ simp append_assoc
+-- the text of a value and of more behind it, up to the byte z
+joined : (z : ℕ) {es : List Step} {st : List Kind} {b : List ℕ} (v : FoundValue es st b) (y m rest : List ℕ)
+    → v.rest ≡ y ++ (m ++ z ∷ rest) → b ≡ ((v.space ++ (v.value ++ y)) ++ m) ++ z ∷ rest
+joined z v y m rest f = v.text ∙ ap (λ s. v.space ++ (v.value ++ s)) f ∙ simp append_assoc
 
-events_joined : (e : Step) (es fs gs hs left : List Step) → es ≡ fs ++ gs → gs ≡ hs ++ finish ∷ left
+events_joined : (e : Step) {es gs : List Step} (fs hs left : List Step) → es ≡ fs ++ gs → gs ≡ hs ++ finish ∷ left
     → e ∷ es ≡ (e ∷ (fs ++ hs)) ++ finish ∷ left
-events_joined e es fs gs hs left p q = ap (λ z. e ∷ z) (p ∙ ap (λ z. fs ++ z) q ∙ sym (append_assoc fs hs (finish ∷ left)))
+events_joined e fs hs left p q = ap (λ z. e ∷ z) (p ∙ ap (λ z. fs ++ z) q ∙ sym (append_assoc fs hs (finish ∷ left)))
 
 named : {V : List ℕ → Type 0} (name x part y : List ℕ) → IsWhitespace x → IsName name part → Spaced V y
     → (m : List ℕ) × (Named (λ n. IsString n name) V m) × (m ≡ x ++ (part ++ y))
@@ -118,17 +121,19 @@ named name x part y h p v =
       flat ∙ ap (λ z. x ++ (z ++ y)) (sym p.text),
     )
 
--- the text of a member and of more, where `m` is the member's
-joined_member : (z : ℕ) (b x part r m y v t w more rest : List ℕ) → b ≡ x ++ (part ++ r)
-    → m ≡ x ++ (part ++ (y ++ (v ++ w))) → r ≡ y ++ (v ++ t) → t ≡ w ++ (more ++ z ∷ rest)
-    → b ≡ (m ++ more) ++ z ∷ rest
-joined_member z b x part r m y v t w more rest e f g h =
-    let flat : x ++ (part ++ (y ++ (v ++ (w ++ (more ++ z ∷ rest))))) ≡ ((x ++ (part ++ (y ++ (v ++ w)))) ++ more)
-    ++ z ∷ rest = simp append_assoc in
-    e ∙ ap (λ s. x ++ (part ++ s)) (g ∙ ap (λ s. y ++ (v ++ s)) h) ∙ flat ∙ ap (λ s. (s ++ more) ++ z ∷ rest) (sym f)
+-- the text of a member and of more behind it, up to the byte z: the part of p is the member's name, y the text of its
+-- value with the whitespace around, and m the text of the member
+joined_member : (z : ℕ) {P K : List ℕ → Type 0} {b : List ℕ} (p : StandsThen P K b) (y more rest : List ℕ) {m : List ℕ}
+    → m ≡ p.space ++ (p.part ++ y) → p.rest ≡ (y ++ more) ++ z ∷ rest → b ≡ (m ++ more) ++ z ∷ rest
+joined_member z p y more rest f g =
+    let flat : p.space ++ (p.part ++ ((y ++ more) ++ z ∷ rest)) ≡ ((p.space ++ (p.part ++ y)) ++ more) ++ z ∷ rest
+    = simp append_assoc in
+    p.text ∙ ap (λ s. p.space ++ (p.part ++ s)) g ∙ flat ∙ ap (λ s. (s ++ more) ++ z ∷ rest) (sym f)
 
-comma_text : (b space part rest tail : List ℕ) → b ≡ space ++ (part ++ rest) → part ≡ 44 ∷ [] → rest ≡ tail → b ≡ space ++ (44 ∷ tail)
-comma_text b space part rest tail e p r = e ∙ ap (λ z. space ++ (z ++ rest)) p ∙ ap (λ z. space ++ (44 ∷ z)) r
+-- a text that begins with a comma, by what is behind that
+comma_text : {K : List ℕ → Type 0} {b : List ℕ} (p : StandsThen (IsByte 44) K b) (tail : List ℕ) → p.rest ≡ tail
+    → b ≡ p.space ++ (44 ∷ tail)
+comma_text p tail r = p.text ∙ ap (λ z. p.space ++ (z ++ p.rest)) p.is_part ∙ ap (λ z. p.space ++ (44 ∷ z)) r
 
 mutual
   pub find_value : (n : ℕ) (es : List Step) (st : List Kind) (b : List ℕ) → length es ≤ n → Spells due es st b → FoundValue es st b
@@ -226,7 +231,7 @@ mutual
         rest =
             f.rest;
         is = ap (λ z. seq ∷ z) (f.is ∙ sym (append_assoc (child_events f.found) (finish ∷ []) f.left));
-        text = opened 91 93 b p.space p.part p.rest f.inside f.rest p.text p.is_part f.text;
+        text = opened 93 p f.inside f.rest f.text;
         is_space =
             p.is_space;
         is_value = record { inside = f.inside; text = refl; is_inside = f.is_inside };
@@ -243,7 +248,7 @@ mutual
         rest =
             f.rest;
         is = ap (λ z. map ∷ z) (f.is ∙ sym (append_assoc (member_events f.found) (finish ∷ []) f.left));
-        text = opened 123 125 b p.space p.part p.rest f.inside f.rest p.text p.is_part f.text;
+        text = opened 125 p f.inside f.rest f.text;
         is_space =
             p.is_space;
         is_value = record { inside = f.inside; text = refl; is_inside = f.is_inside };
@@ -276,9 +281,9 @@ mutual
         left = m.left;
         inside = (v.space ++ (v.value ++ m.space)) ++ m.more;
         rest = m.rest;
-        is = events_joined element es (events v.found) v.left (child_events m.found) m.left v.is
+        is = events_joined element (events v.found) (child_events m.found) m.left v.is
             m.is;
-        text = joined 93 b v.space v.value v.rest m.space m.more m.rest v.text m.text;
+        text = joined 93 v m.space m.more m.rest m.text;
         is_inside =
             record {
               first = v.space ++ (v.value ++ m.space);
@@ -313,7 +318,7 @@ mutual
       let v = find_value n es (Seq ∷ st) p.rest (omega arith) p.is_rest in
       let m = find_more n v.left st v.rest (shorter n es _ p.rest v (omega arith)) v.is_rest in
       let c = (v.space ++ (v.value ++ m.space)) ++ m.more in
-      let tail : p.rest ≡ c ++ 93 ∷ m.rest = joined 93 p.rest v.space v.value v.rest m.space m.more m.rest v.text m.text in
+      let tail : p.rest ≡ c ++ 93 ∷ m.rest = joined 93 v m.space m.more m.rest m.text in
       record {
         found = tree v.found m.found;
         left = m.left;
@@ -321,9 +326,9 @@ mutual
         more = 44 ∷ c;
         rest = m.rest;
         is =
-            events_joined element es (events v.found) v.left (child_events m.found) m.left v.is m.is;
+            events_joined element (events v.found) (child_events m.found) m.left v.is m.is;
         text =
-            comma_text b p.space p.part p.rest (c ++ 93 ∷ m.rest) p.text p.is_part tail;
+            comma_text p (c ++ 93 ∷ m.rest) tail;
         is_space =
             p.is_space;
         is_more = (
@@ -368,10 +373,10 @@ mutual
         inside = d.0 ++ m.more;
         rest = m.rest;
         is =
-            events_joined (key s) es (events v.found) v.left (member_events m.found) m.left v.is m.is;
+            events_joined (key s) (events v.found) (member_events m.found) m.left v.is m.is;
         text =
-            joined_member 125 b p.space p.part p.rest d.0 v.space v.value v.rest m.space m.more m.rest p.text d.2
-            v.text m.text;
+            joined_member 125 p (v.space ++ (v.value ++ m.space)) m.more m.rest d.2
+            (joined 125 v m.space m.more m.rest m.text);
         is_inside =
             record { first = d.0; rest = m.more; text = refl; is_first = d.1; is_rest = m.is_more };
         is_rest =
@@ -404,8 +409,8 @@ mutual
       let d = named s p.space p.part (v.space ++ (v.value ++ m.space)) p.is_space p.is_part
       (padded v.found v.space v.value m.space v.is_space v.is_value m.is_space) in
       let tail : q.rest ≡ (d.0 ++ m.more) ++ 125 ∷ m.rest =
-      joined_member 125 q.rest p.space p.part p.rest d.0 v.space v.value v.rest m.space m.more m.rest p.text d.2
-      v.text m.text in
+      joined_member 125 p (v.space ++ (v.value ++ m.space)) m.more m.rest d.2
+      (joined 125 v m.space m.more m.rest m.text) in
       record {
         found = member s v.found m.found;
         left = m.left;
@@ -413,8 +418,8 @@ mutual
         more = 44 ∷ (d.0 ++ m.more);
         rest =
             m.rest;
-        is = events_joined (key s) es (events v.found) v.left (member_events m.found) m.left v.is m.is;
-        text = comma_text b q.space q.part q.rest ((d.0 ++ m.more) ++ 125 ∷ m.rest) q.text q.is_part tail;
+        is = events_joined (key s) (events v.found) (member_events m.found) m.left v.is m.is;
+        text = comma_text q ((d.0 ++ m.more) ++ 125 ∷ m.rest) tail;
         is_space = q.is_space;
         is_more = (
           d.0 ++ m.more,

@@ -70,10 +70,10 @@ front_byte_stops c K b h p =
     (space_ends_number p.space (c ∷ p.rest) p.is_space h)
 
 -- an element, from what follows its value
-spaced_due : {P : List ℕ → Type 0} (es more : List Step) (st : List Kind) (a r : List ℕ) (p : Spaced P a)
+spaced_due : {P : List ℕ → Type 0} (es more : List Step) (st : List Kind) {a : List ℕ} (r : List ℕ) (p : Spaced P a)
     → ((r' : List ℕ) → Spells after more st r' → Spells due es st (p.inner ++ r')) → Spells after more st r
     → Spells due es st (a ++ r)
-spaced_due es more st a r p go k =
+spaced_due es more st r p go k =
     let inner = go (p.after ++ r) (after_space more st p.after r p.is_after k) in
     let all = due_space es st p.before (p.inner ++ (p.after ++ r)) p.is_before inner in
     subst (λ z. Spells due es st z)
@@ -143,7 +143,7 @@ mutual
   elements_spell (tree t ts) b es st r p k =
       subst (λ z. Spells due ((events t ++ child_events ts) ++ finish ∷ es) (Seq ∷ st) z) (sym (then_split b (93 ∷ r) p))
       (regroup (events t) (child_events ts) (finish ∷ es) due (Seq ∷ st) _
-      (spaced_due (events t ++ (child_events ts ++ finish ∷ es)) (child_events ts ++ finish ∷ es) (Seq ∷ st) p.first
+      (spaced_due (events t ++ (child_events ts ++ finish ∷ es)) (child_events ts ++ finish ∷ es) (Seq ∷ st)
       (p.rest ++ 93 ∷ r) p.is_first
       (λ r' k'. value_spells t p.is_first.inner (child_events ts ++ finish ∷ es) (Seq ∷ st) r'
       p.is_first.is_inner k') (more_spell ts p.rest es st r p.is_rest k)))
@@ -156,7 +156,7 @@ mutual
       at_front (44 ∷ []) (c ++ 93 ∷ r) (b ++ 93 ∷ r) refl (
       subst (λ z. Spells due ((events t ++ child_events ts) ++ finish ∷ es) (Seq ∷ st) z) (sym (then_split c (93 ∷ r) p))
       (regroup (events t) (child_events ts) (finish ∷ es) due (Seq ∷ st) _
-      (spaced_due (events t ++ (child_events ts ++ finish ∷ es)) (child_events ts ++ finish ∷ es) (Seq ∷ st) p.first
+      (spaced_due (events t ++ (child_events ts ++ finish ∷ es)) (child_events ts ++ finish ∷ es) (Seq ∷ st)
       (p.rest ++ 93 ∷ r) p.is_first
       (λ r' k'. value_spells t p.is_first.inner (child_events ts ++ finish ∷ es) (Seq ∷ st) r'
       p.is_first.is_inner k') (more_spell ts p.rest es st r p.is_rest k)))) (ap (λ z. z ++ 93 ∷ r) q.1)
@@ -169,7 +169,7 @@ mutual
       front_at (b ++ 125 ∷ r) _ (then_split b (125 ∷ r) p) (named_front s p.first (p.rest ++ 125 ∷ r) p.is_first (
       regroup (events t) (member_events ms) (finish ∷ es) due (Map ∷ st) _
       (spaced_due (events t ++ (member_events ms ++ finish ∷ es)) (member_events ms ++ finish ∷ es) (Map ∷ st)
-      p.is_first.value (p.rest ++ 125 ∷ r) p.is_first.is_value
+      (p.rest ++ 125 ∷ r) p.is_first.is_value
       (λ r' k'. value_spells t p.is_first.is_value.inner (member_events ms ++ finish ∷ es) (Map ∷ st) r'
       p.is_first.is_value.is_inner k') (more_members_spell ms p.rest es st r p.is_rest k))))
 
@@ -183,7 +183,7 @@ mutual
       front_at (q.0 ++ 125 ∷ r) _ (then_split q.0 (125 ∷ r) p) (named_front s p.first (p.rest ++ 125 ∷ r) p.is_first (
       regroup (events t) (member_events ms) (finish ∷ es) due (Map ∷ st) _
       (spaced_due (events t ++ (member_events ms ++ finish ∷ es)) (member_events ms ++ finish ∷ es) (Map ∷ st)
-      p.is_first.value (p.rest ++ 125 ∷ r) p.is_first.is_value
+      (p.rest ++ 125 ∷ r) p.is_first.is_value
       (λ r' k'. value_spells t p.is_first.is_value.inner (member_events ms ++ finish ∷ es) (Map ∷ st) r'
       p.is_first.is_value.is_inner k') (more_members_spell ms p.rest es st r p.is_rest k)))))
       (ap (λ z. z ++ 125 ∷ r) q.1)
@@ -193,4 +193,4 @@ pub json_spells : (b : List ℕ) (t : Tree) → IsJson b t → Spells due (event
 json_spells b t p =
     subst (λ z. Spells due z [] b) (append-nil (events t))
     (subst (λ z. Spells due (events t ++ []) [] z) (append-nil b)
-    (spaced_due (events t ++ []) [] [] b [] p (λ r k. value_spells t p.inner [] [] r p.is_inner k) tt))
+    (spaced_due (events t ++ []) [] [] [] p (λ r k. value_spells t p.inner [] [] r p.is_inner k) tt))

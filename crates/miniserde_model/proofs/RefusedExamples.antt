@@ -1,15 +1,14 @@
 -- Each of the examples of invalid texts has no tree. The proof takes the text apart up to the byte that no rule
 -- allows: the first byte of a value (`at_front`), a byte of a number (`whole_number`), the start of an element
 -- (`element_first`), or the first character of a string (`behind_quote`).
-use Rattle.std.proofs.Common.{◌≡◌, ℕ, ◌+◌, ◌*◌, ◌<◌, false, List, [], ◌∷◌, ◌++◌, codes, length, length-append, refl}
+use Rattle.std.proofs.Common.{◌≡◌, ℕ, ◌<◌, false, List, [], ◌∷◌, ◌++◌, codes, length, length-append, refl}
 use Rattle.std.proofs.Common.{sym, ap, subst, ◌∙◌, append_assoc, append-nil, arith, inl, inr}
 use Rattle.std.specs.List.{AllByRecursion}
-use Rattle.std.specs.Char.{digit_value}
 use Rattle.std.proofs.lemmas.Str.{char_from_byte}
 use lib.Utf8.{scalar_cases}
 use Rattle.miniserde_model.specs.Tree.{Tree, nonneg, neg, num, str, list}
 use Rattle.miniserde_model.specs.Number.{IsDigit, IsInt, IsMinus, IsFraction, IsExponent, IsNumberText}
-use Rattle.miniserde_model.specs.String.{quote, IsShortEscape, IsRaw, IsPiece, raw, short, unit, pair, ArePieces, IsString}
+use Rattle.miniserde_model.specs.String.{quote, IsShortEscape, IsRaw, IsPiece, IsUnit, raw, short, unit, pair, ArePieces, IsString}
 use Rattle.miniserde_model.specs.Whitespace.{IsWhitespace}
 use Rattle.miniserde_model.specs.Value.{IsValue, IsJson, HasNoTree}
 use Rattle.miniserde_model.specs.Bytes.{is_space, is_number_byte, StopsAt}
@@ -97,9 +96,9 @@ no_digit_exponent : (c : ℕ) (r x : List ℕ) → IsExponent x → IsDigit c �
 no_digit_exponent c r x (inl h) d e = cc
 no_digit_exponent c r x (inr h) d e = let same : c ≡ h.0 = cc in elim (h.4) [ inl k ↦ omega arith | inr k ↦ omega arith ]
 
-no_digit_behind : (c : ℕ) (r f x : List ℕ) → IsFraction f → IsExponent x → IsDigit c → c ∷ r ≡ f ++ x → ⊥
-no_digit_behind c r f x (inl h) q d e = no_digit_exponent c r x q d (e ∙ ap (λ z. z ++ x) h)
-no_digit_behind c r f x (inr h) q d e =
+no_digit_behind : {c : ℕ} {r : List ℕ} (f x : List ℕ) → IsFraction f → IsExponent x → IsDigit c → c ∷ r ≡ f ++ x → ⊥
+no_digit_behind {c = c} {r = r} f x (inl h) q d e = no_digit_exponent c r x q d (e ∙ ap (λ z. z ++ x) h)
+no_digit_behind {c = c} {r = r} f x (inr h) q d e =
     let g : ◌≡◌ {A = List ℕ} (c ∷ r) (46 ∷ (h.0 ++ x)) = e ∙ ap (λ z. z ++ x) h.1 in
     let same : c ≡ 46 = cc in
     omega arith
@@ -112,7 +111,7 @@ zero_whole c r (d ∷ ds) y (inr h) e = let same : 48 ≡ d = cc in absurd (omeg
 zero_alone : (c : ℕ) (r : List ℕ) → IsDigit c → IsNumberText (48 ∷ c ∷ r) → ⊥
 zero_alone c r d n =
     let e = unsigned 48 (c ∷ r) n.minus (n.int ++ (n.fraction ++ n.exponent)) n.is_minus (λ k. omega arith) n.text in
-    no_digit_behind c r n.fraction n.exponent n.is_fraction n.is_exponent d (zero_whole c r n.int (n.fraction ++ n.exponent) n.is_int e)
+    no_digit_behind n.fraction n.exponent n.is_fraction n.is_exponent d (zero_whole c r n.int (n.fraction ++ n.exponent) n.is_int e)
 
 leading_zero : HasNoTree (codes "01")
 leading_zero t p = zero_alone 49 [] (omega arith, omega arith) (whole_number 48 (codes "1") t refl (refl, (refl, tt)) p)
@@ -227,10 +226,11 @@ record FirstPiece (b : List ℕ) : Type 0 where
   text : piece ++ rest ≡ b
   is_piece : IsPiece piece character
 
-first_piece : (z : ℕ) (r y inside cs : List ℕ) → (z ≡ 34 → ⊥) → ArePieces inside cs → inside ++ 34 ∷ y ≡ z ∷ r → FirstPiece (z ∷ r)
-first_piece z r y inside [] n p e = let f : ◌≡◌ {A = List ℕ} (34 ∷ y) (z ∷ r) = ap (λ w. w ++ 34 ∷ y) (sym p) ∙ e in
+first_piece : {z : ℕ} {r : List ℕ} (y inside cs : List ℕ) → (z ≡ 34 → ⊥) → ArePieces inside cs → inside ++ 34 ∷ y ≡ z ∷ r
+    → FirstPiece (z ∷ r)
+first_piece {z = z} {r = r} y inside [] n p e = let f : ◌≡◌ {A = List ℕ} (34 ∷ y) (z ∷ r) = ap (λ w. w ++ 34 ∷ y) (sym p) ∙ e in
     let same : z ≡ 34 = cc in absurd (n same)
-first_piece z r y inside (c ∷ cs) n p e =
+first_piece y inside (c ∷ cs) n p e =
     record {
       piece = p.0;
       rest = p.1 ++ 34 ∷ y;
@@ -247,23 +247,23 @@ behind_quote z r t n p =
     let g : ◌≡◌ {A = List ℕ} (34 ∷ (s.1.inside ++ 34 ∷ f.space)) (34 ∷ z ∷ r) =
     ap (λ w. 34 ∷ w) (sym (append_assoc s.1.inside (34 ∷ []) f.space)) ∙ ap (λ w. w ++ f.space) (sym s.1.text)
     ∙ sym f.text in
-    first_piece z r f.space s.1.inside s.1.characters n s.1.pieces (cc)
+    first_piece f.space s.1.inside s.1.characters n s.1.pieces (cc)
 
 -- a character that stands for itself, where its first byte is ASCII
-raw_byte : (a x r : List ℕ) (c z : ℕ) → z < 128 → IsRaw a c → a ++ x ≡ z ∷ r → c ≡ z
-raw_byte a x r c z low p e = char_from_byte (z ∷ r) x c (sym e ∙ ap (λ w. w ++ x) p.text) low (omega arith)
+raw_byte : {a : List ℕ} (x : List ℕ) {r : List ℕ} {c : ℕ} (z : ℕ) → z < 128 → IsRaw a c → a ++ x ≡ z ∷ r → c ≡ z
+raw_byte x {r = r} {c = c} z low p e = char_from_byte (z ∷ r) x c (sym e ∙ ap (λ w. w ++ x) p.text) low (omega arith)
 
-control_no_piece : (a x r : List ℕ) (c z : ℕ) → z < 32 → IsPiece a c → a ++ x ≡ z ∷ r → ⊥
-control_no_piece a x r c z low (raw p) e = let same = raw_byte a x r c z (omega arith) p e in omega (arith, p.printable)
-control_no_piece a x r c z low (short l s k) e =
+control_no_piece : {a : List ℕ} (x : List ℕ) {r : List ℕ} {c : ℕ} (z : ℕ) → z < 32 → IsPiece a c → a ++ x ≡ z ∷ r → ⊥
+control_no_piece x {r = r} {c = c} z low (raw p) e = let same = raw_byte x z (omega arith) p e in omega (arith, p.printable)
+control_no_piece x {r = r} {c = c} z low (short l s k) e =
     let f : ◌≡◌ {A = List ℕ} (92 ∷ l ∷ x) (z ∷ r) = ap (λ w. w ++ x) (sym k) ∙ e in
     let same : 92 ≡ z = cc in
     omega arith
-control_no_piece a x r c z low (unit s p) e =
+control_no_piece x {r = r} {c = c} z low (unit s p) e =
     let f : ◌≡◌ {A = List ℕ} (92 ∷ 117 ∷ p.d3 ∷ p.d2 ∷ p.d1 ∷ p.d0 ∷ x) (z ∷ r) = ap (λ w. w ++ x) (sym p.text) ∙ e in
     let same : 92 ≡ z = cc in
     omega arith
-control_no_piece a x r c z low (pair p) e =
+control_no_piece x {r = r} {c = c} z low (pair p) e =
     let u = p.is_first in
     let f : ◌≡◌ {A = List ℕ} (92 ∷ 117 ∷ u.d3 ∷ u.d2 ∷ u.d1 ∷ u.d0 ∷ (p.second ++ x)) (z ∷ r) =
     ap (λ w. w ++ (p.second ++ x)) (sym u.text) ∙ sym (append_assoc p.first p.second x) ∙ ap (λ w. w ++ x) (sym p.text) ∙ e in
@@ -272,25 +272,25 @@ control_no_piece a x r c z low (pair p) e =
 
 control_byte : HasNoTree (34 ∷ 0x1F ∷ 34 ∷ [])
 control_byte t p = let f = behind_quote 31 (34 ∷ []) t (λ e. omega arith) p in
-    control_no_piece f.piece f.rest (34 ∷ []) f.character 31 (omega arith) f.is_piece f.text
+    control_no_piece f.rest 31 (omega arith) f.is_piece f.text
 
 short_not_u : (l c : ℕ) → IsShortEscape l c → l ≡ 117 → ⊥
 short_not_u l c quote e = omega arith
 short_not_u l c _ e = omega arith
 
-unit_value : (d3 d2 d1 d0 u : ℕ) → d3 ≡ 100 → d2 ≡ 56 → d1 ≡ 48 → d0 ≡ 48
-    → u ≡ digit_value d3 * 4096 + digit_value d2 * 256 + digit_value d1 * 16 + digit_value d0 → u ≡ 0xD800
-unit_value d3 d2 d1 d0 u e3 e2 e1 e0 e = rw (e3, e2, e1, e0) at e
+-- the escape `\ud800` stands for 0xD800
+unit_value : {b : List ℕ} {u : ℕ} (p : IsUnit b u) → p.d3 ≡ 100 → p.d2 ≡ 56 → p.d1 ≡ 48 → p.d0 ≡ 48 → u ≡ 0xD800
+unit_value p e3 e2 e1 e0 = rw (e3, e2, e1, e0) at p.value
 
 no_lone_surrogate : (a x r : List ℕ) (c : ℕ) → IsPiece a c → a ++ x ≡ 92 ∷ 117 ∷ 100 ∷ 56 ∷ 48 ∷ 48 ∷ 34 ∷ r → ⊥
-no_lone_surrogate a x r c (raw p) e = p.not_backslash (raw_byte a x _ c 92 (omega arith) p e)
+no_lone_surrogate a x r c (raw p) e = p.not_backslash (raw_byte x 92 (omega arith) p e)
 no_lone_surrogate a x r c (short l s k) e =
     let f : ◌≡◌ {A = List ℕ} (92 ∷ l ∷ x) (92 ∷ 117 ∷ 100 ∷ 56 ∷ 48 ∷ 48 ∷ 34 ∷ r) = ap (λ w. w ++ x) (sym k) ∙ e in
     short_not_u l c s (cc)
 no_lone_surrogate a x r c (unit s p) e =
     let f : ◌≡◌ {A = List ℕ} (92 ∷ 117 ∷ p.d3 ∷ p.d2 ∷ p.d1 ∷ p.d0 ∷ x) (92 ∷ 117 ∷ 100 ∷ 56 ∷ 48 ∷ 48 ∷ 34 ∷ r) =
     ap (λ w. w ++ x) (sym p.text) ∙ e in
-    let value = unit_value p.d3 p.d2 p.d1 p.d0 c (cc) (cc) (cc) (cc) p.value in
+    let value = unit_value p (cc) (cc) (cc) (cc) in
     elim (scalar_cases c s) [ inl low ↦ omega arith | inr high ↦ omega arith ]
 no_lone_surrogate a x r c (pair p) e =
     let u = p.is_first in

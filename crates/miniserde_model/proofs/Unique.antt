@@ -17,8 +17,8 @@ use Rattle.miniserde_model.proofs.Runs.{same_run}
 use Rattle.miniserde_model.proofs.Numbers.{same_number}
 use Rattle.miniserde_model.proofs.Strings.{same_string}
 use Rattle.miniserde_model.specs.Bytes.{is_space}
-use Rattle.miniserde_model.proofs.Prefixes.{Prefix, AtEnd, Closes, Heads, BeginsNot, whitespace_passes, same_spaced}
-use Rattle.miniserde_model.proofs.Prefixes.{same_named, same_then, same_between, space_no_piece}
+use Rattle.miniserde_model.proofs.Prefixes.{Prefix, PrefixFree, StandsApart, AtEnd, Closes, Heads, BeginsNot}
+use Rattle.miniserde_model.proofs.Prefixes.{whitespace_passes, same_spaced, same_named, same_then, same_between, space_no_piece}
 
 -- ---- a value is told by its first byte
 
@@ -95,8 +95,9 @@ known_no_space c h = grind (arith, nat_tests)
 pub head_no_space : (b rest : List ℕ) (k : ℕ) → k < 7 → Head b k → StopsAt is_space (b ++ rest)
 head_no_space b rest k l h = rw (h.is) (known_no_space h.byte (omega (arith, h.of_kind)))
 
-head_not : (z k : ℕ) (b rest x : List ℕ) → kind_of_byte z ≡ 7 → k < 7 → Head b k → b ++ rest ≡ z ∷ x → ⊥
-head_not z k b rest x hz l h e =
+head_not : (z : ℕ) {k : ℕ} {b : List ℕ} (rest : List ℕ) {x : List ℕ} → kind_of_byte z ≡ 7 → Head b k → k < 7
+    → b ++ rest ≡ z ∷ x → ⊥
+head_not z rest {x = x} hz h l e =
     let f : ◌≡◌ {A = List ℕ} (h.byte ∷ (h.rest ++ rest)) (z ∷ x) = ap (λ a. a ++ rest) (sym h.is) ∙ e in
     let same : h.byte ≡ z = cc in
     omega (arith, h.of_kind, ap kind_of_byte same, hz)
@@ -106,19 +107,23 @@ pub value_heads : (t : Tree) → Heads (IsValue t)
 value_heads t = record { no_space = λ b rest p. head_no_space b rest (kind t) (kind_below t) (value_head t b p) }
 
 value_not : (t : Tree) (z : ℕ) → kind_of_byte z ≡ 7 → BeginsNot z (IsValue t)
-value_not t z hz b rest x p e = head_not z (kind t) b rest x hz (kind_below t) (value_head t b p) e
+value_not t z hz b rest x p e = head_not z rest hz (value_head t b p) (kind_below t) e
 
 name_heads : (s : List ℕ) → Heads (λ n. IsString n s)
 name_heads s = record { no_space = λ b rest p. head_no_space b rest 4 (omega arith) (string_head b s p) }
 
 name_not : (s : List ℕ) (z : ℕ) → kind_of_byte z ≡ 7 → BeginsNot z (λ n. IsString n s)
-name_not s z hz b rest x p e = head_not z 4 b rest x hz (omega arith) (string_head b s p) e
+name_not s z hz b rest x p e = head_not z rest hz (string_head b s p) (omega arith) e
 
--- two values that begin alike are of one kind
-same_kind : (t u : Tree) (a b x y : List ℕ) → IsValue t a → IsValue u b → a ++ x ≡ b ++ y → kind t ≡ kind u
-same_kind t u a b x y p q e =
-    let h = value_head t a p in
-    let k = value_head u b q in
+value_apart : (t : Tree) (z : ℕ) → is_space z ≡ false → kind_of_byte z ≡ 7 → StandsApart z (IsValue t)
+value_apart t z s hz = record { byte_no_space = s; heads = value_heads t; begins_not = value_not t z hz }
+
+name_apart : (s : List ℕ) (z : ℕ) → is_space z ≡ false → kind_of_byte z ≡ 7 → StandsApart z (λ n. IsString n s)
+name_apart s z hs hz = record { byte_no_space = hs; heads = name_heads s; begins_not = name_not s z hz }
+
+-- two texts that begin alike begin with bytes of one kind
+same_kind : {i j : ℕ} {a b : List ℕ} (x y : List ℕ) → Head a i → Head b j → a ++ x ≡ b ++ y → i ≡ j
+same_kind x y h k e =
     let f : ◌≡◌ {A = List ℕ} (h.byte ∷ (h.rest ++ x)) (k.byte ∷ (k.rest ++ y)) = ap (λ z. z ++ x) (sym h.is) ∙ e ∙ ap (λ z. z ++ y) k.is in
     let same : h.byte ≡ k.byte = cc in
     sym h.of_kind ∙ ap kind_of_byte same ∙ k.of_kind
@@ -133,84 +138,87 @@ more_members_end (member name t ms) b x p c = rw (p.1) refl
 
 -- ---- one tree
 
-clash_at : (c d : ℕ) (a b cs ds x y : List ℕ) → (c ≡ d → ⊥) → a ≡ c ∷ cs → b ≡ d ∷ ds → a ++ x ≡ b ++ y → ⊥
-clash_at c d a b cs ds x y apart p q e =
+-- texts that begin with different bytes don't begin alike
+clash_at : {c d : ℕ} {a b cs ds : List ℕ} (x y : List ℕ) → a ≡ c ∷ cs → b ≡ d ∷ ds → (c ≡ d → ⊥) → a ++ x ≡ b ++ y → ⊥
+clash_at {c = c} {d = d} {cs = cs} {ds = ds} x y p q apart e =
     let f : ◌≡◌ {A = List ℕ} (c ∷ (cs ++ x)) (d ∷ (ds ++ y)) = ap (λ z. z ++ x) (sym p) ∙ e ∙ ap (λ z. z ++ y) q in
     apart (cc)
 
 -- behind a comma is no closing bracket
-no_more : (z : ℕ) (a b c x y : List ℕ) → (z ≡ 44 → ⊥) → a ≡ [] → b ≡ 44 ∷ c → Closes z x → a ++ x ≡ b ++ y → ⊥
-no_more z a b c x y apart p q r e = clash_at z 44 x b r.0 c [] y apart r.1 q (append-nil x ∙ ap (λ w. w ++ x) (sym p) ∙ e)
+no_more : {z : ℕ} {a b c x : List ℕ} (y : List ℕ) → a ≡ [] → b ≡ 44 ∷ c → Closes z x → (z ≡ 44 → ⊥) → a ++ x ≡ b ++ y → ⊥
+no_more {x = x} y p q r apart e = clash_at [] y r.1 q apart (append-nil x ∙ ap (λ w. w ++ x) (sym p) ∙ e)
 
 -- if a and b are the word w, and `a ++ x` is `b ++ y`, then x is y
-pub same_word : (w a b x y : List ℕ) → a ≡ w → b ≡ w → a ++ x ≡ b ++ y → x ≡ y
-same_word w a b x y p q e = append_cancel_left w x y (ap (λ z. z ++ x) (sym p) ∙ e ∙ ap (λ z. z ++ y) q)
+pub same_word : (w : List ℕ) {a b x y : List ℕ} → a ≡ w → b ≡ w → a ++ x ≡ b ++ y → x ≡ y
+same_word w {x = x} {y = y} p q e = append_cancel_left w x y (ap (λ z. z ++ x) (sym p) ∙ e ∙ ap (λ z. z ++ y) q)
 
 -- if a is the word of v and b that of w, and `a ++ x` is `b ++ y`, then v is w and x is y
-pub same_truth : (v w : Bool) (a b x y : List ℕ) → a ≡ word v → b ≡ word w → a ++ x ≡ b ++ y → (v ≡ w) × (x ≡ y)
-same_truth true true a b x y p q e = (refl, same_word (codes "true") a b x y p q e)
-same_truth false false a b x y p q e = (refl, same_word (codes "false") a b x y p q e)
-same_truth true false a b x y p q e = absurd (clash_at 116 102 a b _ _ x y (λ n. omega arith) p q e)
-same_truth false true a b x y p q e = absurd (clash_at 102 116 a b _ _ x y (λ n. omega arith) p q e)
+pub same_truth : (v w : Bool) → PrefixFree (λ a. a ≡ word v) (λ b. b ≡ word w) (v ≡ w)
+same_truth true true a b x y p q e = (refl, same_word (codes "true") p q e)
+same_truth false false a b x y p q e = (refl, same_word (codes "false") p q e)
+same_truth true false a b x y p q e = absurd (clash_at {c = 116} {d = 102} x y p q (λ n. omega arith) e)
+same_truth false true a b x y p q e = absurd (clash_at {c = 102} {d = 116} x y p q (λ n. omega arith) e)
 
-same_whitespace : (z : ℕ) → is_space z ≡ false → (a b x y : List ℕ) → IsWhitespace a → IsWhitespace b → Closes z x
-    → Closes z y → a ++ x ≡ b ++ y → x ≡ y
-same_whitespace z hz a b x y p q cx cy e =
-    (same_run is_space a b x y (whitespace_passes a p) (whitespace_passes b q) (rw (cx.1) hz) (rw (cy.1) hz) e).1
+-- `Prefix` holds of whitespace before the byte z, if z is none
+same_whitespace : {R : Type 0} (z : ℕ) → is_space z ≡ false → R → Prefix IsWhitespace IsWhitespace (Closes z) R
+same_whitespace z hz r a b x y p q cx cy e =
+    (r, (same_run is_space a b x y (whitespace_passes a p) (whitespace_passes b q) (rw (cx.1) hz) (rw (cy.1) hz) e).1)
 
 spaced_name : (s r : List ℕ) → Prefix (Spaced (λ n. IsString n s)) (Spaced (λ n. IsString n r)) AtEnd (s ≡ r)
-spaced_name s r = same_spaced (name_heads s) (name_heads r) (λ a b x y p q sx sy e. same_string a b x y s r p q e)
+spaced_name s r = same_spaced (name_heads s) (name_heads r) (λ a b x y p q sx sy e. same_string s r a b x y p q e)
 
 -- whitespace and a bracket are no element
-no_element : (t : Tree) (M : List ℕ → Type 0) (a b x y : List ℕ) → IsWhitespace a → Then (Spaced (IsValue t)) M b
-    → Closes 93 x → a ++ x ≡ b ++ y → ⊥
-no_element t M a b x y w p c e = space_no_piece 93 refl (value_heads t) (value_not t 93 refl) a p.first c.0
-    (p.rest ++ y) w p.is_first
+no_element : (t : Tree) {M : List ℕ → Type 0} (a : List ℕ) {b x : List ℕ} (y : List ℕ) → IsWhitespace a
+    → Then (Spaced (IsValue t)) M b → Closes 93 x → a ++ x ≡ b ++ y → ⊥
+no_element t a y w p c e = space_no_piece (value_apart t 93 refl refl) a c.0 (p.rest ++ y) w p.is_first
     (ap (λ z. a ++ z) (sym c.1) ∙ e ∙ ap (λ z. z ++ y) p.text ∙ append_assoc p.first p.rest y)
 
-no_member : (s : List ℕ) (V M : List ℕ → Type 0) (a b x y : List ℕ) → IsWhitespace a
+-- whitespace and a bracket are no member
+no_member : (s : List ℕ) {V M : List ℕ → Type 0} (a : List ℕ) {b x : List ℕ} (y : List ℕ) → IsWhitespace a
     → Then (Named (λ n. IsString n s) V) M b → Closes 125 x → a ++ x ≡ b ++ y → ⊥
-no_member s V M a b x y w p c e =
+no_member s a y w p c e =
     let m = p.is_first in
-    space_no_piece 125 refl (name_heads s) (name_not s 125 refl) a m.name c.0 _ w m.is_name
+    space_no_piece (name_apart s 125 refl refl) a c.0 _ w m.is_name
     (ap (λ z. a ++ z) (sym c.1) ∙ e ∙ ap (λ z. z ++ y) p.text ∙ append_assoc p.first p.rest y
     ∙ ap (λ z. z ++ (p.rest ++ y)) m.text ∙ append_assoc m.name (58 ∷ m.value) (p.rest ++ y))
 
 mutual
   pub same_value : (t u : Tree) → Prefix (IsValue t) (IsValue u) (StopsAt is_number_byte) (t ≡ u)
-  same_value null null a b x y p q sx sy e = (refl, same_word (codes "null") a b x y p q e)
+  same_value null null a b x y p q sx sy e = (refl, same_word (codes "null") p q e)
   same_value (truth v) (truth w) a b x y p q sx sy e = let both = same_truth v w a b x y p q e in (ap truth both.0, both.1)
-  same_value (nonneg n) (nonneg m) a b x y p q sx sy e = same_number a b x y _ _ p q sx sy e
-  same_value (nonneg n) (neg m) a b x y p q sx sy e = same_number a b x y _ _ p q sx sy e
-  same_value (nonneg n) (num m) a b x y p q sx sy e = same_number a b x y _ _ p q sx sy e
-  same_value (neg n) (nonneg m) a b x y p q sx sy e = same_number a b x y _ _ p q sx sy e
-  same_value (neg n) (neg m) a b x y p q sx sy e = same_number a b x y _ _ p q sx sy e
-  same_value (neg n) (num m) a b x y p q sx sy e = same_number a b x y _ _ p q sx sy e
-  same_value (num n) (nonneg m) a b x y p q sx sy e = same_number a b x y _ _ p q sx sy e
-  same_value (num n) (neg m) a b x y p q sx sy e = same_number a b x y _ _ p q sx sy e
-  same_value (num n) (num m) a b x y p q sx sy e = same_number a b x y _ _ p q sx sy e
-  same_value (str s) (str r) a b x y p q sx sy e = let both = same_string a b x y s r p q e in (ap str both.0, both.1)
+  same_value (nonneg n) (nonneg m) a b x y p q sx sy e = same_number _ _ a b x y p q sx sy e
+  same_value (nonneg n) (neg m) a b x y p q sx sy e = same_number _ _ a b x y p q sx sy e
+  same_value (nonneg n) (num m) a b x y p q sx sy e = same_number _ _ a b x y p q sx sy e
+  same_value (neg n) (nonneg m) a b x y p q sx sy e = same_number _ _ a b x y p q sx sy e
+  same_value (neg n) (neg m) a b x y p q sx sy e = same_number _ _ a b x y p q sx sy e
+  same_value (neg n) (num m) a b x y p q sx sy e = same_number _ _ a b x y p q sx sy e
+  same_value (num n) (nonneg m) a b x y p q sx sy e = same_number _ _ a b x y p q sx sy e
+  same_value (num n) (neg m) a b x y p q sx sy e = same_number _ _ a b x y p q sx sy e
+  same_value (num n) (num m) a b x y p q sx sy e = same_number _ _ a b x y p q sx sy e
+  same_value (str s) (str r) a b x y p q sx sy e = let both = same_string s r a b x y p q e in (ap str both.0, both.1)
   same_value (list ts) (list us) a b x y p q sx sy e =
       let both = same_between 91 93 (same_elements ts us) a b x y p q sx sy e in
       (ap list both.0, both.1)
   same_value (members ms) (members ns) a b x y p q sx sy e =
       let both = same_between 123 125 (same_members ms ns) a b x y p q sx sy e in
       (ap members both.0, both.1)
-  same_value t u a b x y p q sx sy e = let k : kind t ≡ kind u = same_kind t u a b x y p q e in absurd (omega arith)
+  same_value t u a b x y p q sx sy e =
+      let k : kind t ≡ kind u = same_kind x y (value_head t a p) (value_head u b q) e in
+      absurd (omega arith)
 
   same_elements : (ts us : Trees) → Prefix (AreElements ts) (AreElements us) (Closes 93) (ts ≡ us)
-  same_elements no_trees no_trees a b x y p q sx sy e = (refl, same_whitespace 93 refl a b x y p q sx sy e)
-  same_elements no_trees (tree u us) a b x y p q sx sy e = absurd (no_element u _ a b x y p q sx e)
-  same_elements (tree t ts) no_trees a b x y p q sx sy e = absurd (no_element t _ b a y x q p sy (sym e))
+  same_elements no_trees no_trees a b x y p q sx sy e = same_whitespace 93 refl refl a b x y p q sx sy e
+  same_elements no_trees (tree u us) a b x y p q sx sy e = absurd (no_element u a y p q sx e)
+  same_elements (tree t ts) no_trees a b x y p q sx sy e = absurd (no_element t b x q p sy (sym e))
   same_elements (tree t ts) (tree u us) a b x y p q sx sy e =
       let both = same_then 93 (more_ends ts) (more_ends us)
       (same_spaced (value_heads t) (value_heads u) (same_value t u)) (same_more ts us) a b x y p q sx sy e in
       (ap₂ tree both.0.0 both.0.1, both.1)
 
   same_more : (ts us : Trees) → Prefix (AreMoreElements ts) (AreMoreElements us) (Closes 93) (ts ≡ us)
-  same_more no_trees no_trees a b x y p q sx sy e = (refl, same_word [] a b x y p q e)
-  same_more no_trees (tree u us) a b x y p q sx sy e = absurd (no_more 93 a b q.0 x y (λ n. omega arith) p q.1 sx e)
-  same_more (tree t ts) no_trees a b x y p q sx sy e = absurd (no_more 93 b a p.0 y x (λ n. omega arith) q p.1 sy (sym e))
+  same_more no_trees no_trees a b x y p q sx sy e = (refl, same_word [] p q e)
+  same_more no_trees (tree u us) a b x y p q sx sy e = absurd (no_more y p q.1 sx (λ n. omega arith) e)
+  same_more (tree t ts) no_trees a b x y p q sx sy e = absurd (no_more x q p.1 sy (λ n. omega arith) (sym e))
   same_more (tree t ts) (tree u us) a b x y p q sx sy e =
       let f : ◌≡◌ {A = List ℕ} (44 ∷ (p.0 ++ x)) (44 ∷ (q.0 ++ y)) = ap (λ z. z ++ x) (sym p.1) ∙ e ∙ ap (λ z. z ++ y) q.1 in
       let g : p.0 ++ x ≡ q.0 ++ y = cc in
@@ -220,9 +228,9 @@ mutual
       (ap₂ tree both.0.0 both.0.1, both.1)
 
   same_members : (ms ns : Members) → Prefix (AreMembers ms) (AreMembers ns) (Closes 125) (ms ≡ ns)
-  same_members no_members no_members a b x y p q sx sy e = (refl, same_whitespace 125 refl a b x y p q sx sy e)
-  same_members no_members (member r u ns) a b x y p q sx sy e = absurd (no_member r _ _ a b x y p q sx e)
-  same_members (member s t ms) no_members a b x y p q sx sy e = absurd (no_member s _ _ b a y x q p sy (sym e))
+  same_members no_members no_members a b x y p q sx sy e = same_whitespace 125 refl refl a b x y p q sx sy e
+  same_members no_members (member r u ns) a b x y p q sx sy e = absurd (no_member r a y p q sx e)
+  same_members (member s t ms) no_members a b x y p q sx sy e = absurd (no_member s b x q p sy (sym e))
   same_members (member s t ms) (member r u ns) a b x y p q sx sy e =
       let both = same_then 125 (more_members_end ms) (more_members_end ns)
       (same_named (spaced_name s r) (same_spaced (value_heads t) (value_heads u) (same_value t u)))
@@ -230,9 +238,9 @@ mutual
       (cc (both.0.0.0, both.0.0.1, both.0.1), both.1)
 
   same_more_members : (ms ns : Members) → Prefix (AreMoreMembers ms) (AreMoreMembers ns) (Closes 125) (ms ≡ ns)
-  same_more_members no_members no_members a b x y p q sx sy e = (refl, same_word [] a b x y p q e)
-  same_more_members no_members (member r u ns) a b x y p q sx sy e = absurd (no_more 125 a b q.0 x y (λ n. omega arith) p q.1 sx e)
-  same_more_members (member s t ms) no_members a b x y p q sx sy e = absurd (no_more 125 b a p.0 y x (λ n. omega arith) q p.1 sy (sym e))
+  same_more_members no_members no_members a b x y p q sx sy e = (refl, same_word [] p q e)
+  same_more_members no_members (member r u ns) a b x y p q sx sy e = absurd (no_more y p q.1 sx (λ n. omega arith) e)
+  same_more_members (member s t ms) no_members a b x y p q sx sy e = absurd (no_more x q p.1 sy (λ n. omega arith) (sym e))
   same_more_members (member s t ms) (member r u ns) a b x y p q sx sy e =
       let f : ◌≡◌ {A = List ℕ} (44 ∷ (p.0 ++ x)) (44 ∷ (q.0 ++ y)) = ap (λ z. z ++ x) (sym p.1) ∙ e ∙ ap (λ z. z ++ y) q.1 in
       let g : p.0 ++ x ≡ q.0 ++ y = cc in

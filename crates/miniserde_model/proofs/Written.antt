@@ -138,19 +138,27 @@ piece_high c s big = rw (high_stays c big)
 escaped_as : (n c : ℕ) → c ≡ n → IsPiece (escape_text n) n → IsPiece (escape_text c) c
 escaped_as n c e p = subst (λ z. IsPiece (escape_text z) z) (sym e) p
 
-control_text : (c : ℕ) → c < 32 → c ≢ 8 → c ≢ 9 → c ≢ 10 → c ≢ 12 → c ≢ 13
+-- c is none of the control characters that have an escape of one letter
+record HasNoLetter (c : ℕ) : Type 0 where
+  n8 : c ≢ 8
+  n9 : c ≢ 9
+  n10 : c ≢ 10
+  n12 : c ≢ 12
+  n13 : c ≢ 13
+
+control_text : (c : ℕ) → c < 32 → HasNoLetter c
     → escape_text c ≡ 92 ∷ 117 ∷ 48 ∷ 48 ∷ digit_char (c / 16) ∷ digit_char (c % 16) ∷ []
-control_text c low n8 n9 n10 n12 n13 = grind (arith, nat_tests)
+control_text c low n = grind (arith, nat_tests, n.n8, n.n9, n.n10, n.n12, n.n13)
 
 -- a byte from 0x20 on that is neither a quotation mark nor a backslash is written as itself
 pub raw_text : (c : ℕ) → 32 ≤ c → c ≢ 34 → c ≢ 92 → escape_text c ≡ c ∷ []
 raw_text c high n34 n92 = grind (arith, nat_tests)
 
-piece_control : (c : ℕ) → IsScalar c → c < 32 → c ≢ 8 → c ≢ 9 → c ≢ 10 → c ≢ 12 → c ≢ 13 → IsPiece (escape_text c) c
-piece_control c s low n8 n9 n10 n12 n13 =
+piece_control : (c : ℕ) → IsScalar c → c < 32 → HasNoLetter c → IsPiece (escape_text c) c
+piece_control c s low n =
     let v1 : digit_value (digit_char (c / 16)) ≡ c / 16 = digit_value-digit_char (c / 16) (omega arith) in
     let v0 : digit_value (digit_char (c % 16)) ≡ c % 16 = digit_value-digit_char (c % 16) (omega arith) in
-    rw (control_text c low n8 n9 n10 n12 n13)
+    rw (control_text c low n)
     (unit s (record {
       d3 = 48;
       d2 = 48;
@@ -202,8 +210,7 @@ piece_low c s small =
                                           | inl e ↦ escaped_as 92 c e (short 92 backslash refl)
                                           | inr n92 ↦
                                               elim (cases_lt c 32) [
-                                                | inl low ↦ piece_control c s low n8 n9 n10 n12
-                                                    n13
+                                                | inl low ↦ piece_control c s low (record { n8 = n8; n9 = n9; n10 = n10; n12 = n12; n13 = n13 })
                                                 | inr high ↦ piece_raw c s high small n34 n92
                                               ]
                                         ]

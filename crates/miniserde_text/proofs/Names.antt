@@ -49,7 +49,7 @@ pub name_colon : (s n r ds rest colon : List ℕ) → slice_index s 0 ≡ 34 →
     → SpellsUpToQuote ds (drop 1 s) rest → colon ≡ after_run is_space rest → slice_index colon 0 ≢ 58 → ⊥
 name_colon s n r ds rest colon at (b, h, j) x c away =
     let l = string_leads ds s (encode_utf8_all ds) rest at x refl in
-    let same = same_string l.0 h.spelled rest (h.space ++ 58 ∷ r) _ n l.1 h.is_spelled (sym l.2 ∙ name_split s r b _ h j) in
+    let same = same_string _ n l.0 h.spelled rest (h.space ++ 58 ∷ r) l.1 h.is_spelled (sym l.2 ∙ name_split s r b _ h j) in
     away (ap (λ y. slice_index y 0) (c ∙ ap (after_run is_space) same.1 ∙ run_only_space h.space (58 ∷ r) h.is_space refl))
 
 -- if t is s after its whitespace, and t begins with a name, s has that name after whitespace

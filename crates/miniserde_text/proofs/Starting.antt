@@ -139,29 +139,29 @@ leaf_event (num x) = float x
 leaf_event _ = step.null
 
 same_piece : (e f : Step) (a b x y : List ℕ) → Piece e a → Piece f b → Ends e x → Ends f y → a ++ x ≡ b ++ y → (e ≡ f) × (x ≡ y)
-same_piece step.null step.null a b x y p q sx sy h = (refl, same_word (codes "null") a b x y p q h)
+same_piece step.null step.null a b x y p q sx sy h = (refl, same_word (codes "null") p q h)
 same_piece (boolean v) (boolean w) a b x y p q sx sy h = let both = same_truth v w a b x y p q h in (ap boolean both.0, both.1)
-same_piece (string s) (string r) a b x y p q sx sy h = let both = same_string a b x y s r p q h in (ap string both.0, both.1)
+same_piece (string s) (string r) a b x y p q sx sy h = let both = same_string s r a b x y p q h in (ap string both.0, both.1)
 same_piece (negative n) (negative m) a b x y p q sx sy h = let both =
-    same_number a b x y (neg n) (neg m) p q sx sy h in (ap leaf_event both.0, both.1)
+    same_number (neg n) (neg m) a b x y p q sx sy h in (ap leaf_event both.0, both.1)
 same_piece (negative n) (nonnegative m) a b x y p q sx sy h = let both =
-    same_number a b x y (neg n) (nonneg m) p q sx sy h in (ap leaf_event both.0, both.1)
+    same_number (neg n) (nonneg m) a b x y p q sx sy h in (ap leaf_event both.0, both.1)
 same_piece (negative n) (float m) a b x y p q sx sy h = let both =
-    same_number a b x y (neg n) (num m) p q sx sy h in (ap leaf_event both.0, both.1)
+    same_number (neg n) (num m) a b x y p q sx sy h in (ap leaf_event both.0, both.1)
 same_piece (nonnegative n) (negative m) a b x y p q sx sy h = let both =
-    same_number a b x y (nonneg n) (neg m) p q sx sy h in (ap leaf_event both.0, both.1)
+    same_number (nonneg n) (neg m) a b x y p q sx sy h in (ap leaf_event both.0, both.1)
 same_piece (nonnegative n) (nonnegative m) a b x y p q sx sy h = let both =
-    same_number a b x y (nonneg n) (nonneg m) p q sx sy h in (ap leaf_event both.0, both.1)
+    same_number (nonneg n) (nonneg m) a b x y p q sx sy h in (ap leaf_event both.0, both.1)
 same_piece (nonnegative n) (float m) a b x y p q sx sy h = let both =
-    same_number a b x y (nonneg n) (num m) p q sx sy h in (ap leaf_event both.0, both.1)
+    same_number (nonneg n) (num m) a b x y p q sx sy h in (ap leaf_event both.0, both.1)
 same_piece (float n) (negative m) a b x y p q sx sy h = let both =
-    same_number a b x y (num n) (neg m) p q sx sy h in (ap leaf_event both.0, both.1)
+    same_number (num n) (neg m) a b x y p q sx sy h in (ap leaf_event both.0, both.1)
 same_piece (float n) (nonnegative m) a b x y p q sx sy h = let both =
-    same_number a b x y (num n) (nonneg m) p q sx sy h in (ap leaf_event both.0, both.1)
-same_piece (float n) (float m) a b x y p q sx sy h = let both = same_number a b x y (num n) (num m) p q sx sy h in
+    same_number (num n) (nonneg m) a b x y p q sx sy h in (ap leaf_event both.0, both.1)
+same_piece (float n) (float m) a b x y p q sx sy h = let both = same_number (num n) (num m) a b x y p q sx sy h in
     (ap leaf_event both.0, both.1)
-same_piece seq seq a b x y p q sx sy h = (refl, same_word (91 ∷ []) a b x y p q h)
-same_piece map map a b x y p q sx sy h = (refl, same_word (123 ∷ []) a b x y p q h)
+same_piece seq seq a b x y p q sx sy h = (refl, same_word (91 ∷ []) p q h)
+same_piece map map a b x y p q sx sy h = (refl, same_word (123 ∷ []) p q h)
 same_piece element f a b x y p q sx sy h = absurd p
 same_piece (key s) f a b x y p q sx sy h = absurd p
 same_piece finish f a b x y p q sx sy h = absurd p
@@ -197,7 +197,7 @@ same_name s n m r x p q =
     (whitespace_passes q.space q.is_space) (name_no_space n p.part r p.is_part)
     (name_no_space m q.part x q.is_part) (sym p.text ∙ q.text) in
     let a = p.is_part in let b = q.is_part in
-    let two = same_string a.spelled b.spelled (a.space ++ 58 ∷ r) (b.space ++ 58 ∷ x) n m a.is_spelled b.is_spelled
+    let two = same_string n m a.spelled b.spelled (a.space ++ 58 ∷ r) (b.space ++ 58 ∷ x) a.is_spelled b.is_spelled
     (sym (ap (λ z. z ++ r) a.text ∙ colon a.spelled a.space r) ∙ one.1 ∙ ap (λ z. z ++ x) b.text
     ∙ colon b.spelled b.space x) in
     let three = same_run is_space a.space b.space (58 ∷ r) (58 ∷ x) (whitespace_passes a.space a.is_space)

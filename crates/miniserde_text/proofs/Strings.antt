@@ -82,7 +82,7 @@ back_of p c t u h e [] r x = elim (piece_first p c u h) [
       ∙ ap (λ l. is_unescaped (slice_index l 0)) e ∙ s in absurd (true≢false (sym f))
 ]
 back_of p c t u h e (d ∷ cs) r (q, v, k, f, x) =
-    let same = same_piece p q u v c d h k (sym e ∙ f) in
+    let same = same_piece c d p q u v h k (sym e ∙ f) in
     (cs, ap (λ l. l ∷ cs) (sym same.0), subst (λ l. SpellsUpToQuote cs l r) (sym same.1) x)
 
 piece_passes : (p : List ℕ) (c : ℕ) (t u : List ℕ) → IsPiece p c → t ≡ p ++ u → PassesCharacters (c ∷ []) t u
