@@ -15,7 +15,7 @@ use Rattle.miniserde_canonical.specs.private.Members.{NamesRise}
 use Rattle.miniserde_canonical.specs.private.Arranging.{comma_before, Entry, State, start, entry_members}
 use Rattle.miniserde_canonical.specs.private.Arranging.{members_text, entries_text, once_each, Adds, Sorted}
 use Rattle.miniserde_canonical.specs.private.Arranging.{Arranged, Closes, TokenStep}
-use Rattle.miniserde_canonical.specs.private.Sorting.{Chain, SortsMembers}
+use Rattle.miniserde_canonical.specs.private.Sorting.{Chain, texts, SortsMembers}
 use Rattle.miniserde_canonical.specs.private.Drafts.{Wrote, Holding, Represents, ChangesOnlyText}
 use Rattle.miniserde_canonical.proofs.Spreads.{holds_plain, holds_behind}
 use Rattle.miniserde_canonical.proofs.Chains.{BeginsBehind, chain_lengths, chain_add, chain_more, chain_begin}
@@ -222,7 +222,7 @@ pub record PutInOrder (d d' : Draft) (s : State) (f : ℕ) : Type 0 where
 pub record SortedFrom (d d' : Draft) (f : ℕ) (ns : List Member) : Type 0 where
   pub all : ns ≡ drop f d.members.items
   pub is_distinct : Bool
-  pub sorts : SortsMembers ns d.out d'.out d.groups d'.groups is_distinct
+  pub sorts : SortsMembers ns (texts d.out d.groups) (texts d'.out d'.groups) is_distinct
   pub members : d'.members.items ≡ take f d.members.items
   pub distinct : d'.is_distinct ≡ (d.is_distinct && is_distinct)
 
@@ -242,7 +242,7 @@ ordered_at {d = d} {d' = d'} {s = s} {f = f} {n = n} {ns = ns} e es l o h is =
     let gs = d.groups.splices.items in
     let c = chain_cut (take f d.members.items) (take f s.entries) n e ns es ms gs 0 0 d.out.bytes.items
     d.out.splices.items s.last same chain in
-    let own = cut_own (take f d.members.items) (take f s.entries) n e ns es ms gs d.out.bytes.items d.out.splices.items s.last c in
+    let own = cut_own (take f d.members.items) (take f s.entries) n e ns es d.groups d.out s.last c in
     let r = o.sorts (e ∷ es) s.last own in
     let p = r.0 in
     let x = members_text true (norm_members (entry_members (e ∷ es) s.last)) in

@@ -285,14 +285,19 @@ normal_last q [] last = refl
 normal_last q (e ∷ es) last = normal_tree (bytes_eq e.name q) (last_of q (entry_members es last))
     (text_before es last) (normal_last q es last)
 
+-- `order` has the indices of the members ns in the order of their names, and of each name the last index last: whatever
+-- tree r gives each index, it gives each name the one that the indices in ascending order give it
+pub record InNameOrder (ns : List Member) (order : List ℕ) : Type 0 where
+  pub sorted : IsSortedByKey (name_in ns) text_cmp order
+  pub lasts : (r : ℕ → Tree) (q : List ℕ)
+      → last_of q (members_at ns r order) ≡ last_of q (members_at ns r (range_with_len 0 (length ns)))
+
 -- members sorted by name, each name with its last tree, are without repeats the normal form of the entries
-pub kept_normal : (ns : List Member) (es : List Entry) (last : List ℕ) (old new : List ℕ) → Agree ns es
-    → old ≡ range_with_len 0 (length ns) → IsSortedByKey (name_in ns) text_cmp new
-    → ((r : ℕ → Tree) (q : List ℕ) → last_of q (members_at ns r new) ≡ last_of q (members_at ns r old))
-    → without_repeats (members_at ns (own_text_tree es last) new) ≡ norm_members (entry_members es last)
-kept_normal ns es last old new a e s h =
+pub kept_normal : (ns : List Member) (es : List Entry) (last order : List ℕ) → Agree ns es → InNameOrder ns order
+    → without_repeats (members_at ns (own_text_tree es last) order) ≡ norm_members (entry_members es last)
+kept_normal ns es last order a o =
     let r = own_text_tree es last in
-    let all : members_at ns r old ≡ entry_members es last = ap (members_at ns r) e ∙ rows_all ns es last a in
-    norm_only norm_neg (entry_members es last) (without_repeats (members_at ns r new))
-    (kept_rise (members_at ns r new) (orders_sorted (name_in ns) r new s))
-    (λ q. kept_last q (members_at ns r new) ∙ h r q ∙ ap (last_of q) all ∙ sym (normal_last q es last))
+    let all : members_at ns r (range_with_len 0 (length ns)) ≡ entry_members es last = rows_all ns es last a in
+    norm_only norm_neg (entry_members es last) (without_repeats (members_at ns r order))
+    (kept_rise (members_at ns r order) (orders_sorted (name_in ns) r order o.sorted))
+    (λ q. kept_last q (members_at ns r order) ∙ o.lasts r q ∙ ap (last_of q) all ∙ sym (normal_last q es last))

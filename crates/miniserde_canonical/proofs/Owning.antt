@@ -5,43 +5,48 @@ use Rattle.std.proofs.Common.{subst, ◌∙◌, append_assoc, arith, length-appe
 use Rattle.std.proofs.lemmas.List.{drop_all}
 use Rattle.miniserde_canonical.specs.declared.spread.Point.{Point}
 use Rattle.miniserde_canonical.specs.declared.spread.Splice.{Splice}
+use Rattle.miniserde_canonical.specs.declared.spread.SplicedText.{SplicedText}
 use Rattle.miniserde_canonical.specs.declared.member.Member.{Member}
 use Rattle.miniserde_canonical.specs.private.Spreads.{part_between, Holds, none}
 use Rattle.miniserde_canonical.specs.private.Members.{begin_of, before_comma, end_of}
 use Rattle.miniserde_canonical.specs.private.Arranging.{comma_before, Entry, text_before}
-use Rattle.miniserde_canonical.specs.private.Sorting.{Chain, EndsWithMembersFrom, EndsWithMembers, text_at}
+use Rattle.miniserde_canonical.specs.private.Sorting.{Chain, EndsWithMembersFrom, EndsWithMembers, IsEnd, text_at}
 use Rattle.miniserde_canonical.proofs.Spreads.{between_end, between_mid, between_none}
 use Rattle.miniserde_canonical.proofs.Chains.{Cut}
 use Rattle.miniserde_canonical.proofs.MemberLists.{Agree}
 
--- from a point to another the text holds x
-abbrev pub HoldsBetween : List ℕ → List Splice → List ℕ → List Splice → Point → Point → List ℕ → Type 0
-HoldsBetween ms gs bs hs a b x =
-    ((a.bytes ≤ b.bytes) × (b.bytes ≤ length bs) × (a.splices ≤ b.splices) × (b.splices ≤ length hs))
-    × Holds ms gs a.bytes (part_between a.bytes b.bytes bs) (part_between a.splices b.splices hs) x
+-- over the groups, the text `out` holds x from a point to another
+abbrev pub HoldsBetween : SplicedText → SplicedText → Point → Point → List ℕ → Type 0
+HoldsBetween groups out a b x =
+    ((a.bytes ≤ b.bytes) × (b.bytes ≤ length out.bytes.items) × (a.splices ≤ b.splices) × (b.splices ≤ length out.splices.items))
+    × Holds groups.bytes.items groups.splices.items a.bytes (part_between a.bytes b.bytes out.bytes.items)
+    (part_between a.splices b.splices out.splices.items) x
 
-holds_between : (ms : List ℕ) (gs : List Splice) (bs : List ℕ) (hs : List Splice) (a b : Point) (x y : List ℕ)
-    (h : List Splice) → (a.bytes ≤ b.bytes) × (b.bytes ≤ length bs) × (a.splices ≤ b.splices)
-    × (b.splices ≤ length hs) → part_between a.bytes b.bytes bs ≡ y → part_between a.splices b.splices hs ≡ h
-    → Holds ms gs a.bytes y h x → HoldsBetween ms gs bs hs a b x
-holds_between ms gs bs hs a b x y h w e f u = (
+holds_between : (groups out : SplicedText) (a b : Point) {x y : List ℕ} {h : List Splice}
+    → (a.bytes ≤ b.bytes) × (b.bytes ≤ length out.bytes.items) × (a.splices ≤ b.splices) × (b.splices ≤ length out.splices.items)
+    → part_between a.bytes b.bytes out.bytes.items ≡ y → part_between a.splices b.splices out.splices.items ≡ h
+    → Holds groups.bytes.items groups.splices.items a.bytes y h x → HoldsBetween groups out a b x
+holds_between groups out a b {x = x} {y = y} w e f u = (
   w,
-  subst (λ z. Holds ms gs a.bytes z (part_between a.splices b.splices hs) x) (sym e)
-      (subst (λ z. Holds ms gs a.bytes y z x) (sym f) u),
+  subst (λ z. Holds groups.bytes.items groups.splices.items a.bytes z (part_between a.splices b.splices out.splices.items) x)
+      (sym e) (subst (λ z. Holds groups.bytes.items groups.splices.items a.bytes y z x) (sym f) u),
 )
 
-own_first : (n : Member) (ns : List Member) (e : Entry) (es : List Entry) (ms : List ℕ) (gs : List Splice)
-    (bs : List ℕ) (hs : List Splice) (last : List ℕ) (end : Point) → end.bytes ≡ length bs → end.splices ≡ length hs
-    → EndsWithMembersFrom n ns e es ms gs bs hs last → HoldsBetween ms gs bs hs n.point (before_comma ns end)
-    (text_before es last)
-own_first n [] e [] ms gs bs hs last end p q o =
+own_first : {n : Member} (ns : List Member) {e : Entry} (es : List Entry) {groups out : SplicedText} {last : List ℕ}
+    (end : Point) → IsEnd end out → EndsWithMembersFrom n ns e es groups out last
+    → HoldsBetween groups out n.point (before_comma ns end) (text_before es last)
+own_first {n = n} [] {e = e} [] {groups = groups} {out = out} end i o =
+    let bs = out.bytes.items in
+    let hs = out.splices.items in
     let long = ap length o.bytes ∙ length-append o.front o.inside in
     let many = ap length o.splices ∙ length-append o.splices_front o.splices_inside in
-    holds_between ms gs bs hs n.point end last o.inside o.splices_inside
-    (omega (arith, p, o.begins, long), omega (arith, p), omega (arith, q, o.behind, many), omega (arith, q))
-    (between_end n.point.bytes end.bytes bs o.front o.inside o.bytes o.begins p)
-    (between_end n.point.splices end.splices hs o.splices_front o.splices_inside o.splices o.behind q) o.chain
-own_first n (m ∷ ns) e (f ∷ es) ms gs bs hs last end p q o =
+    holds_between groups out n.point end
+    (omega (arith, i.bytes, o.begins, long), omega (arith, i.bytes), omega (arith, i.splices, o.behind, many), omega (arith, i.splices))
+    (between_end n.point.bytes end.bytes bs o.front o.inside o.bytes o.begins i.bytes)
+    (between_end n.point.splices end.splices hs o.splices_front o.splices_inside o.splices o.behind i.splices) o.chain
+own_first {n = n} (m ∷ ns) {e = e} (f ∷ es) {groups = groups} {out = out} end i o =
+    let bs = out.bytes.items in
+    let hs = out.splices.items in
     let r = o.chain in
     let text : bs ≡ o.front ++ (r.before ++ (comma_before f.first ++ r.behind)) = o.bytes ∙ ap (λ z. o.front ++ z) r.bytes in
     let splices : hs ≡ o.splices_front ++ (r.splices_before ++ r.splices_behind) = o.splices ∙ ap (λ z. o.splices_front ++ z) r.splices in
@@ -51,7 +56,7 @@ own_first n (m ∷ ns) e (f ∷ es) ms gs bs hs last end p q o =
     let long = ap length text ∙ length-append o.front (r.before ++ (comma_before f.first ++ r.behind)) in
     let more = length-append r.before (comma_before f.first ++ r.behind) in
     let many = ap length splices ∙ length-append o.splices_front (r.splices_before ++ r.splices_behind) in
-    holds_between ms gs bs hs n.point (before_comma (m ∷ ns) end) f.earlier_text r.before r.splices_before (
+    holds_between groups out n.point (before_comma (m ∷ ns) end) (
       omega (arith, wide),
       omega (arith, wide, o.begins, long, more),
       omega (arith, r.begins_splices),
@@ -61,14 +66,13 @@ own_first n (m ∷ ns) e (f ∷ es) ms gs bs hs last end p q o =
     (comma_before f.first ++ r.behind) text o.begins wide)
     (between_mid n.point.splices m.point.splices hs o.splices_front r.splices_before r.splices_behind splices o.behind
     r.begins_splices) r.is_before
-own_first n [] e (f ∷ es) ms gs bs hs last end p q o = absurd o.chain
-own_first n (m ∷ ns) e [] ms gs bs hs last end p q o = absurd o.chain
+own_first [] (f ∷ es) end i o = absurd o.chain
+own_first (m ∷ ns) [] end i o = absurd o.chain
 
-own_tail : (n : Member) (ns : List Member) (e : Entry) (es : List Entry) (ms : List ℕ) (gs : List Splice)
-    (bs : List ℕ) (hs : List Splice) (last : List ℕ) → EndsWithMembersFrom n ns e es ms gs bs hs last
-    → EndsWithMembers ns es ms gs bs hs last
-own_tail n [] e [] ms gs bs hs last o = tt
-own_tail n (m ∷ ns) e (f ∷ es) ms gs bs hs last o =
+own_tail : {n : Member} (ns : List Member) {e : Entry} (es : List Entry) {groups out : SplicedText} {last : List ℕ}
+    → EndsWithMembersFrom n ns e es groups out last → EndsWithMembers ns es groups out last
+own_tail [] [] o = tt
+own_tail (m ∷ ns) (f ∷ es) o =
     let r = o.chain in
     let front = o.front ++ (r.before ++ comma_before f.first) in
     record {
@@ -86,31 +90,30 @@ own_tail n (m ∷ ns) e (f ∷ es) ms gs bs hs last o =
   where
     rejoin : (a b x c : List ℕ) → a ++ (b ++ (x ++ c)) ≡ (a ++ (b ++ x)) ++ c
     rejoin a b x c = simp append_assoc refl
-own_tail n [] e (f ∷ es) ms gs bs hs last o = absurd o.chain
-own_tail n (m ∷ ns) e [] ms gs bs hs last o = absurd o.chain
+own_tail [] (f ∷ es) o = absurd o.chain
+own_tail (m ∷ ns) [] o = absurd o.chain
 
-own_none : (ns : List Member) (es : List Entry) (ms : List ℕ) (gs : List Splice) (bs : List ℕ) (hs : List Splice)
-    (last : List ℕ) (end : Point) → end.bytes ≡ length bs → end.splices ≡ length hs → ns ≡ [] → es ≡ []
-    → HoldsBetween ms gs bs hs (begin_of ns end) (end_of ns end) (text_at es last)
-own_none [] [] ms gs bs hs last end p q e f =
-    holds_between ms gs bs hs end end [] [] [] (omega arith, omega (arith, p), omega arith, omega (arith, q))
-    (between_none end.bytes end.bytes bs (omega arith)) (between_none end.splices end.splices hs (omega arith)) none
-own_none (n ∷ ns) es ms gs bs hs last end p q e f = absurd (omega (arith, ap length e))
-own_none [] (x ∷ es) ms gs bs hs last end p q e f = absurd (omega (arith, ap length f))
+own_none : (ns : List Member) (es : List Entry) (groups : SplicedText) {out : SplicedText} (last : List ℕ) {end : Point}
+    → IsEnd end out → ns ≡ [] → es ≡ [] → HoldsBetween groups out (begin_of ns end) (end_of ns end) (text_at es last)
+own_none [] [] groups {out = out} last {end = end} i e f =
+    holds_between groups out end end
+    (omega arith, omega (arith, i.bytes), omega arith, omega (arith, i.splices))
+    (between_none end.bytes end.bytes out.bytes.items (omega arith))
+    (between_none end.splices end.splices out.splices.items (omega arith)) none
+own_none (n ∷ ns) es groups last i e f = absurd (omega (arith, ap length e))
+own_none [] (x ∷ es) groups last i e f = absurd (omega (arith, ap length f))
 
 -- the span of the member at the index i holds the text of the entry at i
-pub own_span : (i : ℕ) (ns : List Member) (es : List Entry) (ms : List ℕ) (gs : List Splice) (bs : List ℕ)
-    (hs : List Splice) (last : List ℕ) (end : Point) → end.bytes ≡ length bs → end.splices ≡ length hs
-    → EndsWithMembers ns es ms gs bs hs last
-    → HoldsBetween ms gs bs hs (begin_of (drop i ns) end) (end_of (drop i ns) end) (text_at (drop i es) last)
-own_span i [] [] ms gs bs hs last end p q o =
-    own_none (drop i []) (drop i []) ms gs bs hs last end p q (drop_all {X = Member} i [] (omega arith))
+pub own_span : (i : ℕ) (ns : List Member) (es : List Entry) (groups : SplicedText) {out : SplicedText} (last : List ℕ)
+    {end : Point} → IsEnd end out → EndsWithMembers ns es groups out last
+    → HoldsBetween groups out (begin_of (drop i ns) end) (end_of (drop i ns) end) (text_at (drop i es) last)
+own_span i [] [] groups last p o =
+    own_none (drop i []) (drop i []) groups last p (drop_all {X = Member} i [] (omega arith))
     (drop_all {X = Entry} i [] (omega arith))
-own_span zero (n ∷ ns) (e ∷ es) ms gs bs hs last end p q o = own_first n ns e es ms gs bs hs last end p q o
-own_span (suc i) (n ∷ ns) (e ∷ es) ms gs bs hs last end p q o =
-    own_span i ns es ms gs bs hs last end p q (own_tail n ns e es ms gs bs hs last o)
-own_span i [] (e ∷ es) ms gs bs hs last end p q o = absurd o
-own_span i (n ∷ ns) [] ms gs bs hs last end p q o = absurd o
+own_span zero (n ∷ ns) (e ∷ es) groups last {end = end} p o = own_first ns es end p o
+own_span (suc i) (n ∷ ns) (e ∷ es) groups last p o = own_span i ns es groups last p (own_tail ns es o)
+own_span i [] (e ∷ es) groups last p o = absurd o
+own_span i (n ∷ ns) [] groups last p o = absurd o
 
 -- ---- names
 
@@ -124,19 +127,22 @@ chain_agrees [] (e ∷ es) ms gs at k bs hs last h = absurd h
 chain_agrees (n ∷ ns) [] ms gs at k bs hs last h = absurd h
 
 -- the members with whose texts a text ends agree with their entries
-pub own_agrees : (ns : List Member) (es : List Entry) (ms : List ℕ) (gs : List Splice) (bs : List ℕ)
-    (hs : List Splice) (last : List ℕ) → EndsWithMembers ns es ms gs bs hs last → Agree ns es
-own_agrees [] [] ms gs bs hs last o = tt
-own_agrees (n ∷ ns) (e ∷ es) ms gs bs hs last o =
-    (o.name, chain_agrees ns es ms gs n.point.bytes n.point.splices o.inside o.splices_inside last o.chain)
-own_agrees [] (e ∷ es) ms gs bs hs last o = absurd o
-own_agrees (n ∷ ns) [] ms gs bs hs last o = absurd o
+pub own_agrees : (ns : List Member) (es : List Entry) (groups out : SplicedText) (last : List ℕ)
+    → EndsWithMembers ns es groups out last → Agree ns es
+own_agrees [] [] groups out last o = tt
+own_agrees (n ∷ ns) (e ∷ es) groups out last o = (
+  o.name,
+  chain_agrees ns es groups.bytes.items groups.splices.items n.point.bytes n.point.splices o.inside o.splices_inside last o.chain,
+)
+own_agrees [] (e ∷ es) groups out last o = absurd o
+own_agrees (n ∷ ns) [] groups out last o = absurd o
 
 -- what is cut off a chain begins with a member
-pub cut_own : (ms0 : List Member) (es0 : List Entry) (n : Member) (e : Entry) (ns : List Member) (es : List Entry)
-    (ms : List ℕ) (gs : List Splice) (bs : List ℕ) (hs : List Splice) (last : List ℕ)
-    → Cut ms0 es0 n e ns es ms gs 0 0 bs hs last → EndsWithMembers (n ∷ ns) (e ∷ es) ms gs bs hs last
-cut_own ms0 es0 n e ns es ms gs bs hs last c =
+pub cut_own : (ns0 : List Member) (es0 : List Entry) (n : Member) (e : Entry) (ns : List Member) (es : List Entry)
+    (groups out : SplicedText) (last : List ℕ)
+    → Cut ns0 es0 n e ns es groups.bytes.items groups.splices.items 0 0 out.bytes.items out.splices.items last
+    → EndsWithMembers (n ∷ ns) (e ∷ es) groups out last
+cut_own ns0 es0 n e ns es groups out last c =
     record {
       front = c.before ++ comma_before e.first;
       inside = c.behind;

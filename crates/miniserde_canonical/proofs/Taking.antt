@@ -26,7 +26,8 @@ use Rattle.miniserde_canonical.specs.CanonicalToken.{CanonicalToken, leaf, name,
 use Rattle.miniserde_canonical.specs.CanonicalToken as token
 use Rattle.miniserde_canonical.specs.declared.draft.Draft.{Draft}
 use Rattle.miniserde_canonical.specs.private.Arranging.{comma_before, State, Closes, TokenStep, TokenSteps, start}
-use Rattle.miniserde_canonical.specs.private.Drafts.{Wrote, Holding, Represents, ChangesOnlyText, Recalls, DraftTakes}
+use Rattle.miniserde_canonical.specs.private.Drafts.{Wrote, Holding, Represents, ChangesOnlyText, Recalls, draft_at}
+use Rattle.miniserde_canonical.specs.private.Drafts.{DraftTakes}
 use Rattle.miniserde_canonical.specs.private.Moving.{first_token, ReadsTokens}
 use Rattle.miniserde_canonical.proofs.Growing.{steps_append}
 use Rattle.miniserde_canonical.proofs.Drafting.{keep_holding, stays}
@@ -64,30 +65,34 @@ front_step element b p s = absurd p
 front_step (key x) b p s = absurd p
 front_step finish b p s = absurd p
 
+-- from d to d' the whitespace between `rest` and rest' was left out
+pub record LeavesOut (d d' : Draft) (rest rest' : List ℕ) : Type 0 where
+  pub wrote : (bs : List ℕ) → Wrote d rest bs → Wrote d' rest' bs
+  pub only_text : ChangesOnlyText d d'
+
+-- whitespace changes nothing
+skipped : {d d' : Draft} {rest rest' : List ℕ} {s : State} → LeavesOut d d' rest rest' → Represents d rest s → Represents d' rest' s
+skipped k r = record { bytes = r.bytes; wrote = k.wrote r.bytes r.wrote; holding = keep_holding k.only_text r.holding }
+
 -- a draft takes a value's first token if it leaves out whitespace, and then makes the token's step
-pub takes_front : (e : Step) (b rest mid rest' : List ℕ) (o : Bool) (d d1 d' : Draft) → Piece e b
-    → o ≡ is_some (opened_kind e) → ((s : State) → Represents d rest s → Represents d1 mid s)
+pub takes_front : {rest mid rest' : List ℕ} {d d1 d' : Draft} (e : Step) (b : List ℕ) (o : Bool) → Piece e b
+    → o ≡ is_some (opened_kind e) → LeavesOut d d1 rest mid
     → ((s s' : State) → Represents d1 mid s → TokenStep (first_token e) s s' → Represents d' rest' s')
-    → DraftTakes due rest (first_token e ∷ []) (first_or_after o) rest' d d'
-takes_front e b rest mid rest' o d d1 d' p q k f = λ s r h.
+    → DraftTakes (draft_at due rest d) (first_token e ∷ []) (draft_at (first_or_after o) rest' d')
+takes_front e b o p q k f = λ s r h.
     let t = front_step e b p s in
     let s' = fronted (first_token e) s in
-    (s', (s', t.0, refl), f s s' (k s r) t.0, subst (λ z. Recalls (first_or_after z) s') (sym q) t.1)
+    (s', (s', t.0, refl), f s s' (skipped k r) t.0, subst (λ z. Recalls (first_or_after z) s') (sym q) t.1)
 
 recalled : (f : Bool) (s : State) → Recalls (first_or_after f) s → s.first ≡ f
 recalled true s h = h
 recalled false s h = h
 
--- whitespace changes nothing
-pub skipped : (d d' : Draft) (rest rest' : List ℕ) → ((bs : List ℕ) → Wrote d rest bs → Wrote d' rest' bs)
-    → ChangesOnlyText d d' → (s : State) → Represents d rest s → Represents d' rest' s
-skipped d d' rest rest' f k s r = record { bytes = r.bytes; wrote = f r.bytes r.wrote; holding = keep_holding k r.holding }
-
 -- a draft takes the beginning of an element if it leaves out whitespace; a comma before the element joins the run
-pub takes_element : (f : Bool) (rest mid rest' : List ℕ) (d d' : Draft)
-    → ((s : State) → Represents d rest s → Represents d' mid s) → mid ≡ comma_before f ++ rest'
-    → DraftTakes (first_or_after f) rest (token.element ∷ []) due rest' d d'
-takes_element f rest mid rest' d d' k e = λ s r h.
+pub takes_element : {rest mid : List ℕ} {d d' : Draft} (f : Bool) (rest' : List ℕ) → LeavesOut d d' rest mid
+    → mid ≡ comma_before f ++ rest'
+    → DraftTakes (draft_at (first_or_after f) rest d) (token.element ∷ []) (draft_at due rest' d')
+takes_element {mid = mid} f rest' k e = λ s r h.
     let s' : State = record {
       entries = s.entries;
       last = s.last ++ comma_before s.first;
@@ -100,18 +105,17 @@ takes_element f rest mid rest' d d' k e = λ s r h.
     let comma : mid ≡ comma_before s.first ++ rest' = e ∙ ap (λ z. comma_before z ++ rest') (sym (recalled f s h)) in (
       s',
       (s', a, refl),
-      stays (comma_before s.first) rest' a (k s r) comma,
+      stays (comma_before s.first) rest' a (skipped k r) comma,
       tt,
     )
 
 -- behind a comma, if any, and whitespace, a name
-pub takes_name : (f : Bool) (n rest mid rest1 rest2 part rest' : List ℕ) (d d1 d2 d' : Draft)
-    → ((s : State) → Represents d rest s → Represents d1 mid s) → mid ≡ comma_before f ++ rest1
-    → ((bs : List ℕ) → Wrote d1 rest1 bs → Wrote d2 rest2 bs) → ChangesOnlyText d1 d2
-    → ((before : List ℕ) (s s' : State) → Wrote d2 rest2 (before ++ comma_before s.first) → Holding d2 before s
+pub takes_name : {rest mid at rest' : List ℕ} {d d1 d2 d' : Draft} (f : Bool) (n behind : List ℕ) → LeavesOut d d1 rest mid
+    → mid ≡ comma_before f ++ behind → LeavesOut d1 d2 behind at
+    → ((before : List ℕ) (s s' : State) → Wrote d2 at (before ++ comma_before s.first) → Holding d2 before s
     → s.first ≡ f → TokenStep (name n) s s' → Represents d' rest' s')
-    → DraftTakes (first_or_after f) rest (name n ∷ []) due rest' d d'
-takes_name f n rest mid rest1 rest2 part rest' d d1 d2 d' k e w p g = λ s r h.
+    → DraftTakes (draft_at (first_or_after f) rest d) (name n ∷ []) (draft_at due rest' d')
+takes_name {mid = mid} f n behind k e w g = λ s r h.
     let s' : State = record {
       entries = s.entries ++ record { earlier_text = s.last; first = s.first; name = n } ∷ [];
       last = string_text n ++ 58 ∷ [];
@@ -120,31 +124,29 @@ takes_name f n rest mid rest1 rest2 part rest' d d1 d2 d' k e w p g = λ s r h.
       distinct = s.distinct;
     } in
     let a : TokenStep (name n) s s' = (refl, refl, refl, refl) in
-    let q = k s r in
+    let q = skipped k r in
     let i = recalled f s h in
-    let comma : mid ≡ comma_before s.first ++ rest1 = e ∙ ap (λ z. comma_before z ++ rest1) (sym i) in
-    let wrote = w (q.bytes ++ comma_before s.first) (wrote_on (comma_before s.first) rest1 q.wrote comma) in
-    (s', (s', a, refl), g q.bytes s s' wrote (keep_holding p q.holding) i a, tt)
+    let comma : mid ≡ comma_before s.first ++ behind = e ∙ ap (λ z. comma_before z ++ behind) (sym i) in
+    let wrote = w.wrote (q.bytes ++ comma_before s.first) (wrote_on (comma_before s.first) behind q.wrote comma) in
+    (s', (s', a, refl), g q.bytes s s' wrote (keep_holding w.only_text q.holding) i a, tt)
 
 -- the state behind a closing bracket
 abbrev ended : ℕ → State → State
 ended b s = record { entries = s.entries; last = s.last ++ b ∷ []; opened = s.opened; first = false; distinct = s.distinct }
 
 -- a draft takes the end of an array if it leaves out whitespace; the bracket joins the run
-pub takes_array_end : (m : Moment) (rest mid rest' : List ℕ) (d d' : Draft)
-    → ((s : State) → Represents d rest s → Represents d' mid s) → mid ≡ 93 ∷ rest'
-    → DraftTakes m rest (array_end ∷ []) after rest' d d'
-takes_array_end m rest mid rest' d d' k e = λ s r h.
+pub takes_array_end : {rest mid rest' : List ℕ} {d d' : Draft} (m : Moment) → LeavesOut d d' rest mid → mid ≡ 93 ∷ rest'
+    → DraftTakes (draft_at m rest d) (array_end ∷ []) (draft_at after rest' d')
+takes_array_end {rest' = rest'} m k e = λ s r h.
     let t = ended 93 s in
-    (t, (t, ((refl, refl, refl, refl), refl), refl), stays (93 ∷ []) rest' (refl, refl, refl, refl) (k s r) e, refl)
+    (t, (t, ((refl, refl, refl, refl), refl), refl), stays (93 ∷ []) rest' (refl, refl, refl, refl) (skipped k r) e, refl)
 
 -- a draft takes the end of an object if it leaves out whitespace, and then closes the object; the bracket joins the run
-pub takes_object_end : (m : Moment) (rest mid rest' : List ℕ) (d d1 d' : Draft)
-    → ((s : State) → Represents d rest s → Represents d1 mid s) → mid ≡ 125 ∷ rest'
-    → ((s : State) → Represents d1 mid s → (n : State) × Closes s n × Represents d' mid n)
-    → DraftTakes m rest (object_end ∷ []) after rest' d d'
-takes_object_end m rest mid rest' d d1 d' k e f = λ s r h.
-    let q = f s (k s r) in
+pub takes_object_end : {rest mid rest' : List ℕ} {d d1 : Draft} (m : Moment) (d' : Draft) → LeavesOut d d1 rest mid
+    → mid ≡ 125 ∷ rest' → ((s : State) → Represents d1 mid s → (n : State) × Closes s n × Represents d' mid n)
+    → DraftTakes (draft_at m rest d) (object_end ∷ []) (draft_at after rest' d')
+takes_object_end {rest' = rest'} m d' k e f = λ s r h.
+    let q = f s (skipped k r) in
     let t = ended 125 q.0 in (
       t,
       (t, (q.0, q.1, (refl, refl, refl, refl), refl), refl),
@@ -164,10 +166,10 @@ pub record Taken (j : List ℕ) (m : Moment) (st : List Kind) (rest : List ℕ) 
   pub recalls : Recalls m state
 
 -- if ks are read from the beginning of j, and a draft that represents `start` takes them, `Taken` holds
-pub taken_first : (j s : List ℕ) (st su : List Kind) (ks : List CanonicalToken) (m : Moment) (rest : List ℕ) (d d' : Draft)
-    → su ≡ [] → s ≡ j → Represents d j start → ReadsTokens due su s ks m st rest → DraftTakes due j ks m rest d d'
-    → Taken j m st rest d'
-taken_first j s st su ks m rest d d' e f r p t =
+pub taken_first : {j s rest : List ℕ} {st su : List Kind} {ks : List CanonicalToken} {m : Moment} {d d' : Draft}
+    → su ≡ [] → s ≡ j → Represents d j start → ReadsTokens due su s ks m st rest
+    → DraftTakes (draft_at due j d) ks (draft_at m rest d') → Taken j m st rest d'
+taken_first {j = j} {rest = rest} {st = st} {su = su} {ks = ks} {m = m} e f r p t =
     let a = t start r tt in
     record {
       tokens = ks;
@@ -180,16 +182,16 @@ taken_first j s st su ks m rest d d' e f r p t =
     }
 
 -- if `Taken` holds, and then more tokens are read and taken, `Taken` holds after them
-pub taken_more : (j : List ℕ) (m m' : Moment) (st st' : List Kind) (rest rest' : List ℕ) (ks : List CanonicalToken)
-    (d d' : Draft) → Taken j m st rest d → ReadsTokens m st rest ks m' st' rest' → DraftTakes m rest ks m' rest' d d'
-    → Taken j m' st' rest' d'
-taken_more j m m' st st' rest rest' ks d d' t p f =
+pub taken_more : {j rest rest' : List ℕ} {m m' : Moment} {st st' : List Kind} {ks : List CanonicalToken} {d d' : Draft}
+    → Taken j m st rest d → ReadsTokens m st rest ks m' st' rest'
+    → DraftTakes (draft_at m rest d) ks (draft_at m' rest' d') → Taken j m' st' rest' d'
+taken_more {ks = ks} t p f =
     let a = f t.state t.represents t.recalls in
     record {
       tokens = t.tokens ++ ks;
       state = a.0;
       reads =
-          ReadsTokens-append due [] j t.tokens m st rest ks m' st' rest' t.reads p;
+          ReadsTokens-append t.reads p;
       run =
           steps_append t.tokens ks start t.state a.0 t.run a.1;
       represents = a.2;
@@ -197,11 +199,11 @@ taken_more j m m' st st' rest rest' ks d d' t p f =
     }
 
 -- if no container is open and only whitespace is left, the tokens taken are those of a tree that j spells
-pub taken_all : (j : List ℕ) (f : Bool) (st : List Kind) (rest : List ℕ) (d : Draft) → innermost st ≡ None
+pub taken_all : {j rest : List ℕ} {st : List Kind} {d : Draft} (f : Bool) → innermost st ≡ None
     → IsWhitespace rest → Taken j (first_or_after f) st rest d → (t : Tree) × (s : State) × IsJson j t
     × TokenSteps (tokens t) start s × Represents d rest s
-taken_all j f st rest d e w k =
-    let t = end_ok j k.tokens f st rest e k.reads w in
+taken_all {st = st} f e w k =
+    let t = end_ok f st e k.reads w in
     (t.0, k.state, t.1, subst (λ z. TokenSteps z start k.state) t.2 k.run, k.represents)
 
 -- the rest after whitespace and a part is no longer than the text

@@ -1,6 +1,6 @@
 //! Puts the members of a closed object in the order of their names.
 ghost use Rattle.std.specs.Prelude.{◌≡◌, ◌<◌, length, IfOk, OnOk};
-ghost use Rattle.miniserde_canonical.specs.private.Sorting.{SortsMembers, PutsMembers, PutsMember, PutsBack};
+ghost use Rattle.miniserde_canonical.specs.private.Sorting.{texts, SortsMembers, PutsMembers, PutsMember, PutsBack};
 
 use crate::member::Member;
 use crate::members::{fill, repeats, sort, span_of};
@@ -25,7 +25,7 @@ pub(crate) fn sort_members(
     groups: &mut SplicedText,
 ) -> Result<bool, AllocError>
     requires { 0 < length members.now }
-    ensures { IfOk result (λ b. SortsMembers members.now out.old out.new groups.old groups.new b) }
+    ensures { IfOk result (λ b. SortsMembers members.now (texts out.old groups.old) (texts out.new groups.new) b) }
 {
     fill(members, order)?;
     sort(members, order)?;
@@ -84,7 +84,7 @@ fn put_back(
     groups: &mut SplicedText,
     longest: usize,
 ) -> Result<(), AllocError>
-    ensures { OnOk result (PutsBack point from out.old out.new groups.old groups.new) }
+    ensures { OnOk result (PutsBack point from (texts out.old groups.old) (texts out.new groups.new)) }
 {
     let to = groups.end();
     out.truncate(point);

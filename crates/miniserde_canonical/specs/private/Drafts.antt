@@ -49,9 +49,18 @@ Recalls due s = ⊤
 Recalls first s = s.first ≡ true
 Recalls after s = s.first ≡ false
 
--- Between the moment m, with `rest` left of the input, and m', with rest' left, the draft takes the canonical tokens
--- ks: if d holds s, and the flag `first` of s fits m, then d' holds a state that is s after ks, and whose flag fits
--- m'.
-abbrev pub DraftTakes : Moment → List ℕ → List CanonicalToken → Moment → List ℕ → Draft → Draft → Type 0
-DraftTakes m rest ks m' rest' d d' = (s : State) → Represents d rest s → Recalls m s → (s' : State) × TokenSteps ks s s'
-    × Represents d' rest' s' × Recalls m' s'
+-- a draft at a moment of the reader, with what is left of the input
+pub record DraftAt : Type 0 where
+  pub moment : Moment
+  pub rest : List ℕ
+  pub draft : Draft
+
+-- the draft d at the moment m, with `rest` left of the input
+abbrev pub draft_at : Moment → List ℕ → Draft → DraftAt
+draft_at m rest d = record { moment = m; rest = rest; draft = d }
+
+-- From `old` to `new` the draft takes the canonical tokens ks: if the old draft holds s, and the flag `first` of s fits
+-- the old moment, then the new draft holds a state that is s after ks, and whose flag fits the new moment.
+abbrev pub DraftTakes : DraftAt → List CanonicalToken → DraftAt → Type 0
+DraftTakes old ks new = (s : State) → Represents old.draft old.rest s → Recalls old.moment s
+    → (s' : State) × TokenSteps ks s s' × Represents new.draft new.rest s' × Recalls new.moment s'

@@ -40,27 +40,27 @@ Chain _ _ ms gs at k bs hs last = ⊥
 
 -- ---- the members of one object, at the end of a text
 
--- over the groups ms and gs, the text of bs and hs ends with the texts of the entries e and es, for which the members
--- n and ns stand; the last one's text is `last`
-pub record EndsWithMembersFrom (n : Member) (ns : List Member) (e : Entry) (es : List Entry) (ms : List ℕ)
-    (gs : List Splice) (bs : List ℕ) (hs : List Splice) (last : List ℕ) : Type 0 where
+-- over the groups, the text `out` ends with the texts of the entries e and es, for which the members n and ns stand; the
+-- last one's text is `last`
+pub record EndsWithMembersFrom (n : Member) (ns : List Member) (e : Entry) (es : List Entry) (groups out : SplicedText)
+    (last : List ℕ) : Type 0 where
   pub front : List ℕ
   pub inside : List ℕ
   pub splices_front : List Splice
   pub splices_inside : List Splice
-  pub bytes : bs ≡ front ++ inside
-  pub splices : hs ≡ splices_front ++ splices_inside
+  pub bytes : out.bytes.items ≡ front ++ inside
+  pub splices : out.splices.items ≡ splices_front ++ splices_inside
   pub begins : n.point.bytes ≡ length front
   pub behind : n.point.splices ≡ length splices_front
   pub name : name_of n.name ≡ e.name
-  pub chain : Chain ns es ms gs n.point.bytes n.point.splices inside splices_inside last
+  pub chain : Chain ns es groups.bytes.items groups.splices.items n.point.bytes n.point.splices inside splices_inside last
 
--- over the groups ms and gs, the text of bs and hs ends with the texts of the entries es, for which the members ns
--- stand, the last one's being `last`; without members it is any text
-abbrev pub EndsWithMembers : List Member → List Entry → List ℕ → List Splice → List ℕ → List Splice → List ℕ → Type 0
-EndsWithMembers [] [] ms gs bs hs last = ⊤
-EndsWithMembers (n ∷ ns) (e ∷ es) ms gs bs hs last = EndsWithMembersFrom n ns e es ms gs bs hs last
-EndsWithMembers _ _ ms gs bs hs last = ⊥
+-- over the groups, the text `out` ends with the texts of the entries es, for which the members ns stand, the last one's
+-- being `last`; without members it is any text
+abbrev pub EndsWithMembers : List Member → List Entry → SplicedText → SplicedText → List ℕ → Type 0
+EndsWithMembers [] [] groups out last = ⊤
+EndsWithMembers (n ∷ ns) (e ∷ es) groups out last = EndsWithMembersFrom n ns e es groups out last
+EndsWithMembers _ _ groups out last = ⊥
 
 -- the first entry's own text, from its name to before the next comma: the next entry has it as the text before it, and
 -- of the last one it is `last`; empty without entries
@@ -76,58 +76,75 @@ own_text_tree es last i = str (text_at (drop i es) last)
 
 -- ---- what calls do to the groups and the text
 
--- groups' are `groups` with bytes and splices appended that hold the text x over the groups ms and gs; if the splices
--- hs are all for groups before an index, so are the appended ones
-pub record Gains (ms : List ℕ) (gs : List Splice) (hs : List Splice) (groups groups' : SplicedText) (x : List ℕ) : Type 0 where
+-- the point is the end of the text
+pub record IsEnd (p : Point) (text : SplicedText) : Type 0 where
+  pub bytes : p.bytes ≡ length text.bytes.items
+  pub splices : p.splices ≡ length text.splices.items
+
+-- groups' are `groups` with bytes and splices appended that hold the text x over the groups `base`
+pub record Appends (base groups groups' : SplicedText) (x : List ℕ) : Type 0 where
   pub bytes : List ℕ
   pub splices : List Splice
   pub bytes_gained : groups'.bytes.items ≡ groups.bytes.items ++ bytes
   pub splices_gained : groups'.splices.items ≡ groups.splices.items ++ splices
-  pub text : Holds ms gs (length groups.bytes.items) bytes splices x
-  pub all_before : (n : ℕ) → AllBefore n hs → AllBefore n splices
+  pub text : Holds base.bytes.items base.splices.items (length groups.bytes.items) bytes splices x
+
+-- groups' are `groups` with bytes and splices appended that hold the text x over the groups `base`; if the splices of
+-- `out` are all for groups before an index, so are the appended ones
+pub record Gains (base out groups groups' : SplicedText) (x : List ℕ) : Type 0 where
+  pub appends : Appends base groups groups' x
+  pub all_before : (n : ℕ) → AllBefore n out.splices.items → AllBefore n appends.splices
 
 -- to `groups`, the text of the member of ns at the index i in `out` is appended, with a comma before it unless f is
 -- true
 abbrev pub PutsMember : List Member → ℕ → Bool → SplicedText → SplicedText → SplicedText → Type 0
-PutsMember ns i f out groups groups' = (es : List Entry) (last ms : List ℕ) (gs : List Splice)
-    → EndsWithMembers ns es ms gs out.bytes.items out.splices.items last
-    → Gains ms gs out.splices.items groups groups' (comma_before f ++ text_at (drop i es) last)
+PutsMember ns i f out groups groups' = (es : List Entry) (last : List ℕ) (base : SplicedText)
+    → EndsWithMembers ns es base out last → Gains base out groups groups' (comma_before f ++ text_at (drop i es) last)
 
 -- to `groups`, the texts of the members of ns at the indices in `order` are appended, without those whose name the
 -- next one has, and with commas between; n is how many these are
 abbrev pub PutsMembers : List Member → List ℕ → SplicedText → SplicedText → SplicedText → ℕ → Type 0
-PutsMembers ns order out groups groups' n = (es : List Entry) (last ms : List ℕ) (gs : List Splice)
-    → EndsWithMembers ns es ms gs out.bytes.items out.splices.items last
-    → Gains ms gs out.splices.items groups groups'
+PutsMembers ns order out groups groups' n = (es : List Entry) (last : List ℕ) (base : SplicedText)
+    → EndsWithMembers ns es base out last → Gains base out groups groups'
     (members_text true (without_repeats (members_at ns (own_text_tree es last) order)))
     × (n ≡ count (without_repeats (members_at ns (own_text_tree es last) order)))
 
--- `out'` is `out` cut off at the point, with `bytes` and `splices` appended, which hold the text x over `groups'`. The
--- bytes and splices of `groups'` are ms and gs with more appended. If the splices of `out` were in order over gs, those
--- of `out'` are over those of `groups'` (`stay_in_order`).
-pub record PutAt (point : Point) (ms : List ℕ) (gs : List Splice) (out out' groups' : SplicedText) (x : List ℕ) : Type 0 where
+-- the text of a draft, and its groups
+pub record Texts : Type 0 where
+  pub out : SplicedText
+  pub groups : SplicedText
+
+-- the text `out` with the groups
+abbrev pub texts : SplicedText → SplicedText → Texts
+texts out groups = record { out = out; groups = groups }
+
+-- The text of `new` is that of `old` cut off at the point, with `bytes` and `splices` appended, which hold the text x
+-- over the new groups. These are the old groups with more appended. If the splices of the old text were in order over
+-- the old groups, those of the new text are over the new ones (`stay_in_order`).
+pub record PutAt (point : Point) (old new : Texts) (x : List ℕ) : Type 0 where
   pub bytes : List ℕ
   pub splices : List Splice
   pub bytes_gained : List ℕ
   pub splices_gained : List Splice
-  pub is_bytes : out'.bytes.items ≡ take point.bytes out.bytes.items ++ bytes
-  pub is_splices : out'.splices.items ≡ take point.splices out.splices.items ++ splices
-  pub groups_bytes : groups'.bytes.items ≡ ms ++ bytes_gained
-  pub groups_splices : groups'.splices.items ≡ gs ++ splices_gained
-  pub text : Holds groups'.bytes.items groups'.splices.items point.bytes bytes splices x
-  pub stay_in_order : SplicesInOrder gs out.splices.items → SplicesInOrder groups'.splices.items out'.splices.items
+  pub is_bytes : new.out.bytes.items ≡ take point.bytes old.out.bytes.items ++ bytes
+  pub is_splices : new.out.splices.items ≡ take point.splices old.out.splices.items ++ splices
+  pub groups_bytes : new.groups.bytes.items ≡ old.groups.bytes.items ++ bytes_gained
+  pub groups_splices : new.groups.splices.items ≡ old.groups.splices.items ++ splices_gained
+  pub text : Holds new.groups.bytes.items new.groups.splices.items point.bytes bytes splices x
+  pub stay_in_order : SplicesInOrder old.groups.splices.items old.out.splices.items
+      → SplicesInOrder new.groups.splices.items new.out.splices.items
 
--- out' is `out` up to `point`, and then holds the text that `groups` have from the point `from` on
-abbrev pub PutsBack : Point → Point → SplicedText → SplicedText → SplicedText → SplicedText → Type 0
-PutsBack point from out out' groups groups' = (ms b : List ℕ) (gs h : List Splice) (x : List ℕ)
-    → groups.bytes.items ≡ ms ++ b → groups.splices.items ≡ gs ++ h → from.bytes ≡ length ms
-    → from.splices ≡ length gs → point.bytes ≤ length out.bytes.items → Holds ms gs (length ms) b h x
-    → (AllBefore (length gs) out.splices.items → AllBefore (length gs) h) → PutAt point ms gs out out' groups' x
+-- the text of `new` is that of `old` up to `point`, and then holds the text that the old groups have from the point
+-- `from` on, the end of `base`
+abbrev pub PutsBack : Point → Point → Texts → Texts → Type 0
+PutsBack point from old new = (base : SplicedText) (x : List ℕ) → (a : Appends base base old.groups x) → IsEnd from base
+    → point.bytes ≤ length old.out.bytes.items
+    → (AllBefore (length base.splices.items) old.out.splices.items → AllBefore (length base.splices.items) a.splices)
+    → PutAt point (texts old.out base) new x
 
--- out' is `out`, which ends with the text of the members ns, with that text in normal form; b says whether no two of
--- their names are equal
-abbrev pub SortsMembers : List Member → SplicedText → SplicedText → SplicedText → SplicedText → Bool → Type 0
-SortsMembers ns out out' groups groups' b = (es : List Entry) (last : List ℕ)
-    → EndsWithMembers ns es groups.bytes.items groups.splices.items out.bytes.items out.splices.items last
-    → PutAt (begin_of ns (record { bytes = 0; splices = 0 })) groups.bytes.items groups.splices.items out out'
-    groups' (members_text true (norm_members (entry_members es last))) × (b ≡ once_each (entry_members es last))
+-- the text of `new` is that of `old`, which ends with the text of the members ns, with that text in normal form; b says
+-- whether no two of their names are equal
+abbrev pub SortsMembers : List Member → Texts → Texts → Bool → Type 0
+SortsMembers ns old new b = (es : List Entry) (last : List ℕ) → EndsWithMembers ns es old.groups old.out last
+    → PutAt (begin_of ns (record { bytes = 0; splices = 0 })) old new
+    (members_text true (norm_members (entry_members es last))) × (b ≡ once_each (entry_members es last))

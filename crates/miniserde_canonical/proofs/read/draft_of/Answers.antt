@@ -6,7 +6,7 @@ use Rattle.miniserde_model.specs.private.Reading.{due, after}
 use Rattle.miniserde_text.specs.private.Stack.{innermost}
 use Rattle.miniserde_text.specs.private.Moving.{first_or_after, due_or_after}
 use Rattle.miniserde_canonical.specs.private.Moving.{ReadsTokens}
-use Rattle.miniserde_canonical.specs.private.Drafts.{DraftTakes, Holding}
+use Rattle.miniserde_canonical.specs.private.Drafts.{draft_at, DraftTakes, Holding}
 use Rattle.miniserde_canonical.proofs.Drafting.{keep_holding}
 use Rattle.miniserde_canonical.proofs.Wholes.{barred_from, barred_json, invalid_exit, end_invalid}
 use Rattle.miniserde_canonical.proofs.Taking.{taken_first, taken_more, taken_all}
@@ -19,9 +19,9 @@ loop-kind-init c =
     record {
       going = c.in_ok-first.ensures.going;
       taken =
-          taken_first _ _ _ _ r.0 _ _ _ _ c.new-3.ensures start c.new-4.ensures r.1
-          (subst (λ z. DraftTakes due z r.0 (first_or_after c.in_ok-first.first) c.value.new.self.lexer.rest c.new-4.result
-          c.value.new.self.draft) start r.2);
+          taken_first {d = c.new-4.result} c.new-3.ensures start c.new-4.ensures r.1
+          (subst (λ z. DraftTakes (draft_at due z c.new-4.result) r.0
+          (draft_at (first_or_after c.in_ok-first.first) c.value.new.self.lexer.rest c.value.new.self.draft)) start r.2);
     }
 
 -- a value is due, and comes
@@ -32,12 +32,11 @@ loop-kind-preserved-then-branch c =
     let l = c.loop-kind.reader in
     let reads = subst (λ z. ReadsTokens (first_or_after c.loop-kind.first) l.stack l.lexer.rest a.0 (due_or_after z)
     c.take_child_or_end.new.self.stack c.take_child_or_end.new.self.lexer.rest) c.if-branch.true a.1 in
-    let takes = subst (λ z. DraftTakes (first_or_after c.loop-kind.first) l.lexer.rest a.0 (due_or_after z)
-    c.take_child_or_end.new.self.lexer.rest l.draft c.take_child_or_end.new.self.draft) c.if-branch.true a.2
-    in
-    let turned = taken_more c.args.j.now _ due _ _ _ _ a.0 l.draft c.take_child_or_end.new.self.draft
-    c.loop-kind.invariant.taken reads takes in
-    record { going = c.in_ok-first-2.ensures.going; taken = taken_more c.args.j.now due _ _ _ _ _ b.0 _ _ turned b.1 b.2 }
+    let takes = subst (λ z. DraftTakes (draft_at (first_or_after c.loop-kind.first) l.lexer.rest l.draft) a.0
+    (draft_at (due_or_after z) c.take_child_or_end.new.self.lexer.rest c.take_child_or_end.new.self.draft))
+    c.if-branch.true a.2 in
+    let turned = taken_more c.loop-kind.invariant.taken reads takes in
+    record { going = c.in_ok-first-2.ensures.going; taken = taken_more turned b.1 b.2 }
 
 pub loop-kind-preserved : goal.loop-kind-preserved
 loop-kind-preserved c =
@@ -45,14 +44,13 @@ loop-kind-preserved c =
     let l = c.loop-kind.reader in
     let reads = subst (λ z. ReadsTokens (first_or_after c.loop-kind.first) l.stack l.lexer.rest a.0 (due_or_after z)
     c.take_child_or_end.new.self.stack c.take_child_or_end.new.self.lexer.rest) c.if-branch.false a.1 in
-    let takes = subst (λ z. DraftTakes (first_or_after c.loop-kind.first) l.lexer.rest a.0 (due_or_after z)
-    c.take_child_or_end.new.self.lexer.rest l.draft c.take_child_or_end.new.self.draft) c.if-branch.false a.2
-    in
+    let takes = subst (λ z. DraftTakes (draft_at (first_or_after c.loop-kind.first) l.lexer.rest l.draft) a.0
+    (draft_at (due_or_after z) c.take_child_or_end.new.self.lexer.rest c.take_child_or_end.new.self.draft))
+    c.if-branch.false a.2 in
     record {
       going = c.in_ok-take_child_or_end.ensures.going;
       taken =
-          taken_more c.args.j.now _ after _ _ _ _ a.0 l.draft c.take_child_or_end.new.self.draft
-          c.loop-kind.invariant.taken reads takes;
+          taken_more c.loop-kind.invariant.taken reads takes;
     }
 
 pub returns-in_err-first-clause-invalid : goal.returns-in_err-first-clause-invalid
@@ -65,7 +63,7 @@ returns-in_err-first-clause-invalid c = λ e.
 pub returns-in_err-take_child_or_end-clause-invalid : goal.returns-in_err-take_child_or_end-clause-invalid
 returns-in_err-take_child_or_end-clause-invalid c = λ e.
     let w = err_from_is_err_and c.from_residual-in_err-take_child_or_end.result c.from_residual-in_err-take_child_or_end.ensures.1 in
-    invalid_exit c.args.j.now _ _ _ _ c.loop-kind.invariant.taken.reads (c.in_err-take_child_or_end.ensures.invalid (cc (w.1, w.2, e)))
+    invalid_exit c.loop-kind.invariant.taken.reads (c.in_err-take_child_or_end.ensures.invalid (cc (w.1, w.2, e)))
 
 pub returns-in_err-first-2-clause-invalid : goal.returns-in_err-first-2-clause-invalid
 returns-in_err-first-2-clause-invalid c = λ e.
@@ -74,24 +72,23 @@ returns-in_err-first-2-clause-invalid c = λ e.
     let l = c.loop-kind.reader in
     let reads = subst (λ z. ReadsTokens (first_or_after c.loop-kind.first) l.stack l.lexer.rest a.0 (due_or_after z)
     c.take_child_or_end.new.self.stack c.take_child_or_end.new.self.lexer.rest) c.if-branch.true a.1 in
-    let takes = subst (λ z. DraftTakes (first_or_after c.loop-kind.first) l.lexer.rest a.0 (due_or_after z)
-    c.take_child_or_end.new.self.lexer.rest l.draft c.take_child_or_end.new.self.draft) c.if-branch.true a.2
-    in
-    let turned = taken_more c.args.j.now _ due _ _ _ _ a.0 l.draft c.take_child_or_end.new.self.draft
-    c.loop-kind.invariant.taken reads takes in
-    invalid_exit c.args.j.now _ due _ _ turned.reads (c.in_err-first-2.ensures.invalid (cc (w.1, w.2, e)))
+    let takes = subst (λ z. DraftTakes (draft_at (first_or_after c.loop-kind.first) l.lexer.rest l.draft) a.0
+    (draft_at (due_or_after z) c.take_child_or_end.new.self.lexer.rest c.take_child_or_end.new.self.draft))
+    c.if-branch.true a.2 in
+    let turned = taken_more c.loop-kind.invariant.taken reads takes in
+    invalid_exit turned.reads (c.in_err-first-2.ensures.invalid (cc (w.1, w.2, e)))
 
 pub returns-in_err-end-clause-invalid : goal.returns-in_err-end-clause-invalid
 returns-in_err-end-clause-invalid c = λ e.
     let w = err_from_is_err_and c.from_residual-in_err-end.result c.from_residual-in_err-end.ensures.1 in
     let n : innermost c.loop-kind.reader.stack ≡ None = sym c.top.ensures ∙ c.in_default.is in
-    end_invalid c.args.j.now _ c.loop-kind.first _ _ n c.loop-kind.invariant.taken.reads
+    end_invalid c.loop-kind.first c.loop-kind.reader.stack n c.loop-kind.invariant.taken.reads
     (c.in_err-end.ensures.invalid (cc (w.1, w.2, e)) c.loop-kind.invariant.going)
 
 pub returns-clause-ok : goal.returns-clause-ok
 returns-clause-ok c =
     let n : innermost c.loop-kind.reader.stack ≡ None = sym c.top.ensures ∙ c.in_default.is in
-    let t = taken_all c.args.j.now c.loop-kind.first _ _ c.loop-kind.reader.draft n c.in_ok-end.ensures.ok.2 c.loop-kind.invariant.taken in
+    let t = taken_all c.loop-kind.first n c.in_ok-end.ensures.ok.2 c.loop-kind.invariant.taken in
     let d = c.loop-kind.reader.draft in
     let e = c.flush.new.self in
     let r = t.4 in

@@ -5,7 +5,12 @@ use Rattle.miniserde_canonical.proofs.sort_members.put_member.Goals as goal
 
 pub returns : goal.returns
 returns c =
-    gains_member c.args.groups.now (record { bytes = c.put_comma.new.out; splices = c.args.groups.now.splices })
-    c.append.new.self c.args.out.now c.args.members.now c.args.i c.end.result c.span_of.result c.args.first
-    c.in_ok-put_comma.ensures refl c.end.ensures.bytes c.end.ensures.splices c.span_of.ensures.from
-    c.span_of.ensures.to c.in_ok-append.ensures.bytes c.in_ok-append.ensures.splices
+    gains_member {mid = record { bytes = c.put_comma.new.out; splices = c.args.groups.now.splices }} {p = c.span_of.result}
+    c.args.first c.in_ok-put_comma.ensures refl
+    (record {
+      end = c.end.result;
+      is_end = record { bytes = c.end.ensures.bytes; splices = c.end.ensures.splices };
+      from = c.span_of.ensures.from;
+      to = c.span_of.ensures.to;
+    })
+    (record { bytes = c.in_ok-append.ensures.bytes; splices = c.in_ok-append.ensures.splices })

@@ -14,8 +14,7 @@ loop-k-preserved c = elim c.if-not-repeats.branch [
       (record {
         few = omega (arith, c.loop-k.invariant.few);
         gathers =
-            gather_take c.args.members.now c.args.order.now c.args.out.now c.args.groups.now c.loop-k.groups
-            w.put_member.new.groups c.loop-k.k c.loop-k.number _ c.loop-k-test.true
+            gather_take _ c.loop-k-test.true
             (λ r. sym (c.repeats.ensures r _) ∙ w.if-not-repeats.true) w.in_ok-put_member.ensures
             c.loop-k.invariant.gathers;
       })
@@ -23,13 +22,11 @@ loop-k-preserved c = elim c.if-not-repeats.branch [
       (record {
         few = omega (arith, c.loop-k.invariant.few);
         gathers =
-            gather_skip c.args.members.now c.args.order.now c.args.out.now c.args.groups.now c.loop-k.groups
-            c.loop-k.k c.loop-k.number 0 c.loop-k-test.true
+            gather_skip 0 c.loop-k-test.true
             (λ r. sym (c.repeats.ensures r 0) ∙ w.if-not-repeats.false) c.loop-k.invariant.gathers;
       })
 ]
 
 pub returns : goal.returns
 returns c =
-    gather_end c.args.members.now c.args.order.now c.args.out.now c.args.groups.now c.loop-k.groups c.loop-k.k
-    c.loop-k.number (drop_all c.loop-k.k c.args.order.now c.loop-k-test.false) c.loop-k.invariant.gathers
+    gather_end (drop_all c.loop-k.k c.args.order.now c.loop-k-test.false) c.loop-k.invariant.gathers

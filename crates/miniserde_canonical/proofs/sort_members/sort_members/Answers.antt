@@ -1,13 +1,20 @@
 -- The indices are sorted by name, the members are put into the groups in that order, and the result is put back.
 -- By `settled` it is the normal form of the members.
-use Rattle.std.proofs.Common.{refl}
+use Rattle.std.proofs.Common.{sym, ap, subst, ◌∙◌}
+use Rattle.miniserde_model.specs.Normal.{last_of}
+use Rattle.miniserde_canonical.specs.private.Members.{members_at}
+use Rattle.miniserde_canonical.proofs.MemberLists.{InNameOrder}
 use Rattle.miniserde_canonical.proofs.Sorting.{settled}
 use Rattle.miniserde_canonical.proofs.sort_members.sort_members.Goals as goal
 
 pub returns : goal.returns
 returns c =
-    settled c.args.members.now c.index-members-0.result _ c.end-from.result c.fill.new.order.items
-    c.sort.new.order.items c.as_slice.result.now c.args.out.now c.put_back.new.out c.args.groups.now
-    c.put_members.new.groups c.put_back.new.groups c.in_ok-number.number c.requires refl c.in_ok-fill.ensures
-    c.in_ok-sort.ensures.sorted c.in_ok-sort.ensures.last c.as_slice.ensures.value c.end-from.ensures.bytes
-    c.end-from.ensures.splices c.in_ok-number.ensures c.in_ok-put_back.ensures
+    let ns = c.args.members.now in
+    let sorted : InNameOrder ns c.sort.new.order.items = record {
+      sorted = c.in_ok-sort.ensures.sorted;
+      lasts = λ r q. c.in_ok-sort.ensures.last r q ∙ ap (λ z. last_of q (members_at ns r z)) c.in_ok-fill.ensures;
+    } in
+    settled c.index-members-0.result c.args.out.now c.put_members.new.groups c.put_back.new.out c.put_back.new.groups
+    c.in_ok-number.number c.requires (subst (InNameOrder ns) (sym c.as_slice.ensures.value) sorted)
+    (record { bytes = c.end-from.ensures.bytes; splices = c.end-from.ensures.splices }) c.in_ok-number.ensures
+    c.in_ok-put_back.ensures

@@ -10,12 +10,12 @@ use Rattle.miniserde_text.specs.Lexer.{text_of, is_close}
 use Rattle.miniserde_canonical.specs.CanonicalToken.{name, element}
 use Rattle.miniserde_text.specs.private.Moving.{first_or_after}
 use Rattle.miniserde_canonical.specs.private.Arranging.{comma_before, State, TokenStep}
-use Rattle.miniserde_canonical.specs.private.Drafts.{Wrote, Holding, Represents, DraftTakes}
+use Rattle.miniserde_canonical.specs.private.Drafts.{Wrote, Holding, Represents, draft_at, DraftTakes}
 use Rattle.miniserde_canonical.specs.private.Moving.{end_token}
 use Rattle.miniserde_text.proofs.Consumes.{after_ends, name_ends}
 use Rattle.miniserde_canonical.proofs.Wholes.{reads_finish, reads_element, reads_key}
 use Rattle.miniserde_canonical.proofs.Plains.{name_plain, name_spelled, at_once}
-use Rattle.miniserde_canonical.proofs.Taking.{skipped, takes_array_end, takes_object_end, takes_element, takes_name, stands_less}
+use Rattle.miniserde_canonical.proofs.Taking.{takes_array_end, takes_object_end, takes_element, takes_name, stands_less}
 use Rattle.miniserde_canonical.proofs.Taking.{follows_less, blank_less, follows_behind, follows_at, names_behind}
 use Rattle.miniserde_canonical.proofs.Taking.{names_at, closing_at, comma_at}
 use Rattle.miniserde_canonical.proofs.read.Reader.take_child_or_end.Goals as goal
@@ -58,9 +58,10 @@ returns-in-Seq-clause-reads c =
     subst (λ z. Follows k c.args.first (is_close z) mid new) c.in-Close.is c.in_ok-after.ensures.ok.2 in (
       end_token k ∷ [],
       reads_finish _ _ _ _ k c.args.first c.requires.inside (follows_behind k c.args.first true old mid new b p) c.pop.ensures,
-      subst (λ z. DraftTakes (first_or_after c.args.first) old (end_token z ∷ []) after new d d1) (sym c.in-Seq.is)
-          (takes_array_end (first_or_after c.args.first) old mid new d d1
-          (skipped d d1 old mid c.in_ok-before.ensures.wrote c.in_ok-before.ensures.only_text)
+      subst (λ z. DraftTakes (draft_at (first_or_after c.args.first) old d) (end_token z ∷ []) (draft_at after new d1))
+          (sym c.in-Seq.is)
+          (takes_array_end {d = d} {d' = d1} (first_or_after c.args.first)
+          (record { wrote = c.in_ok-before.ensures.wrote; only_text = c.in_ok-before.ensures.only_text })
           (closing_at k c.args.first mid new b.stops p ∙ ap (λ z. closing z ∷ new) c.in-Seq.is)),
     )
 
@@ -77,9 +78,10 @@ returns-in_ok-close-in-Map-clause-reads c =
     subst (λ z. Follows k c.args.first (is_close z) mid new) c.in-Close.is c.in_ok-after.ensures.ok.2 in (
       end_token k ∷ [],
       reads_finish _ _ _ _ k c.args.first c.requires.inside (follows_behind k c.args.first true old mid new b p) c.pop.ensures,
-      subst (λ z. DraftTakes (first_or_after c.args.first) old (end_token z ∷ []) after new d c.close.new.self) (sym c.in-Map.is)
-          (takes_object_end (first_or_after c.args.first) old mid new d d1 c.close.new.self
-          (skipped d d1 old mid c.in_ok-before.ensures.wrote c.in_ok-before.ensures.only_text)
+      subst (λ z. DraftTakes (draft_at (first_or_after c.args.first) old d) (end_token z ∷ []) (draft_at after new c.close.new.self))
+          (sym c.in-Map.is)
+          (takes_object_end {d = d} {d1 = d1} (first_or_after c.args.first) c.close.new.self
+          (record { wrote = c.in_ok-before.ensures.wrote; only_text = c.in_ok-before.ensures.only_text })
           (closing_at k c.args.first mid new b.stops p ∙ ap (λ z. closing z ∷ new) c.in-Map.is)
           (λ s r. c.in_ok-close-in-Map.ensures mid s r c.in_ok-before.ensures.at)),
     )
@@ -97,8 +99,8 @@ returns-in-Seq-kind-clause-reads c =
     subst (λ z. Follows k c.args.first (is_close z) mid new) c.in-Next.is c.in_ok-after.ensures.ok.2 in (
       element ∷ [],
       reads_element _ _ _ k c.args.first c.requires.inside c.in-Seq-kind.is (follows_behind k c.args.first false old mid new b p),
-      takes_element c.args.first old mid new d d1
-          (skipped d d1 old mid c.in_ok-before.ensures.wrote c.in_ok-before.ensures.only_text)
+      takes_element {d = d} {d' = d1} c.args.first new
+          (record { wrote = c.in_ok-before.ensures.wrote; only_text = c.in_ok-before.ensures.only_text })
           (comma_at k c.args.first mid new b.stops p),
     )
 
@@ -130,10 +132,11 @@ returns-in_ok-name-in-Map-kind-clause-reads c =
       name n ∷ [],
       reads_key _ _ _ n _ k c.args.first c.requires.inside c.in-Map-kind.is
           (follows_behind k c.args.first false old mid behind b p) (names_behind behind at n new b2 q),
-      takes_name c.args.first n old mid behind at q.part new d d1 d2 c.name-in-Map-kind.new.self
-          (skipped d d1 old mid c.in_ok-before.ensures.wrote c.in_ok-before.ensures.only_text)
-          (comma_at k c.args.first mid behind b.stops p) c.in_ok-at-in-Map-kind.ensures.wrote
-          c.in_ok-at-in-Map-kind.ensures.only_text takes,
+      takes_name {d = d} {d1 = d1} {d2 = d2} c.args.first n behind
+          (record { wrote = c.in_ok-before.ensures.wrote; only_text = c.in_ok-before.ensures.only_text })
+          (comma_at k c.args.first mid behind b.stops p)
+          (record { wrote = c.in_ok-at-in-Map-kind.ensures.wrote; only_text = c.in_ok-at-in-Map-kind.ensures.only_text })
+          takes,
     )
 
 pub returns-in_ok-name-in-Map-kind-clause-less : goal.returns-in_ok-name-in-Map-kind-clause-less

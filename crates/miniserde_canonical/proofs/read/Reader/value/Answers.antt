@@ -12,7 +12,7 @@ use Rattle.miniserde_canonical.specs.private.Moving.{first_token}
 use Rattle.miniserde_text.proofs.Consumes.{start_ends}
 use Rattle.miniserde_canonical.proofs.Wholes.{reads_start}
 use Rattle.miniserde_canonical.proofs.Plains.{spelled, at_once}
-use Rattle.miniserde_canonical.proofs.Taking.{skipped, starts_behind, starts_at, takes_front}
+use Rattle.miniserde_canonical.proofs.Taking.{starts_behind, starts_at, takes_front}
 use Rattle.miniserde_canonical.proofs.read.Reader.value.Goals as goal
 
 pub returns-in_err-event-clause-invalid : goal.returns-in_err-event-clause-invalid
@@ -45,7 +45,6 @@ returns-clause-reads c =
     (subst (λ z. SpelledToken escapes event z x) (sym v) q.4) (spelled event x mid new s c.in_ok-event.ensures.text) a in (
       first_token e ∷ [],
       reads_start _ _ _ e c.is_some.result _ full o st,
-      takes_front e s.0.part old mid new c.is_some.result
-          d d1 c.token.new.self s.0.is_part o
-          (skipped d d1 old mid c.in_ok-at.ensures.wrote c.in_ok-at.ensures.only_text) takes,
+      takes_front {d = d} {d1 = d1} e s.0.part c.is_some.result s.0.is_part o
+          (record { wrote = c.in_ok-at.ensures.wrote; only_text = c.in_ok-at.ensures.only_text }) takes,
     )
