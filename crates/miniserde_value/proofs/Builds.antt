@@ -8,7 +8,7 @@ use Rattle.miniserde_model.specs.Tree.{Tree, no_members}
 use Rattle.miniserde_model.specs.Step.{Step, boolean, string, negative, nonnegative, float, seq, element, map, key, finish}
 use Rattle.miniserde_model.specs.Step as step
 use Rattle.miniserde_model.specs.Lexing.{Starts, Names, Follows}
-use Rattle.miniserde_model.specs.private.Reading.{Moment, due, after}
+use Rattle.miniserde_model.specs.private.Reading.{due}
 use Rattle.miniserde_text.specs.Lexer.{event_of_token}
 use Rattle.miniserde_model.specs.declared.kind.Kind.{Kind}
 use Rattle.miniserde_model.specs.declared.kind.Kind.TheVariants as kind
@@ -26,7 +26,8 @@ use Rattle.miniserde_value.specs.Hole.{complete_tree, after_begin, after_step, r
 use Rattle.miniserde_value.specs.Retained.{retained_tree, retained_if}
 use Rattle.miniserde_value.specs.Containers.{innermost, pending, with_next_name}
 use Rattle.miniserde_value.specs.laws.Unique.{gives-kept}
-use Rattle.miniserde_value.specs.private.Builds.{Builds, HoleAdvancesBy, NeverGives, kinds, is_due}
+use Rattle.miniserde_value.specs.private.Builds.{ReaderState, state_before, state_due, outcome_at, Builds, HoleAdvancesBy}
+use Rattle.miniserde_value.specs.private.Builds.{NeverGives, kinds, is_due}
 
 -- ---- the open containers
 
@@ -107,75 +108,78 @@ not_due true = refl
 not_due false = refl
 
 -- an event is taken that repeats no name
-goes_on : (once due : Bool) (h : Hole) (e : Step) (d : Bool) (g : Hole) → (once && repeats e h) ≡ false
+goes_on : (once due : Bool) (h : Hole) (e : Step) {d : Bool} {g : Hole} → (once && repeats e h) ≡ false
     → after_step due h e ≡ Some (d, g) → (es : List Step) → outcome once due h (e ∷ es) ≡ outcome once d g es
-goes_on once true h e d g n t es =
+goes_on once true h e n t es =
     let rest : Bool × Hole → Option Tree = λ s. outcome once s.0 s.1 es in
     ap (λ z. option_and_then rest (cond z None (after_step true h e))) n ∙ ap (option_and_then rest) t
-goes_on once false h e d g n t es =
+goes_on once false h e n t es =
     let rest : Bool × Hole → Option Tree = λ s. outcome once s.0 s.1 es in
     ap (λ z. option_and_then rest (cond z None (after_step false h e))) n ∙ ap (option_and_then rest) t
 
 closes_hole : (once : Bool) (h : Hole) (k : Kind) → innermost h ≡ Some k → (es : List Step)
     → outcome once false h (finish ∷ es) ≡ outcome once false (after_close h) es
 closes_hole once (outside ts) k i es = absurd (cc)
-closes_hole once (in_list ts h) k i es = goes_on once false (in_list ts h) finish false (after_close (in_list ts h))
-    (and-false once) refl es
-closes_hole once (in_members ms n h) k i es =
-    goes_on once false (in_members ms n h) finish false (after_close (in_members ms n h)) (and-false once) refl es
+closes_hole once (in_list ts h) k i es = goes_on once false (in_list ts h) finish (and-false once) refl es
+closes_hole once (in_members ms n h) k i es = goes_on once false (in_members ms n h) finish (and-false once) refl es
 
-close_makes : (once : Bool) (h g : Hole) (k : Kind) (f : Bool) → innermost h ≡ Some k → g ≡ after_close h
-    → HoleAdvancesBy once (first_or_after f) h (finish ∷ []) after g
-close_makes once h g k f i c = λ es. ap (λ z. outcome once z h (finish ∷ es)) (not_due f) ∙ closes_hole once h k i
-    es ∙ ap (λ z. outcome once false z es) (sym c)
+close_makes : (once : Bool) (h : Hole) (s r : List ℕ) (k : Kind) (f : Bool) → innermost h ≡ Some k
+    → HoleAdvancesBy once (state_before f h s) (finish ∷ []) (state_before false (after_close h) r)
+close_makes once h s r k f i = λ es. ap (λ z. outcome once z h (finish ∷ es)) (not_due f) ∙ closes_hole once h k i es
 
 -- if the closing bracket of the innermost container is next, the text builds the hole after the close
-pub close_builds : (once : Bool) (h g : Hole) (s r : List ℕ) (k : Kind) (f : Bool) → innermost h ≡ Some k
-    → Follows k f true s r → g ≡ after_close h → Builds once (first_or_after f) h s after g r
-close_builds once h g s r k f i p c = record {
+pub close_builds : (once : Bool) (h : Hole) {s r : List ℕ} (k : Kind) (f : Bool) → innermost h ≡ Some k
+    → Follows k f true s r → Builds once (state_before f h s) (state_before false (after_close h) r)
+close_builds once h {s = s} {r = r} k f i p = record {
   done = finish ∷ [];
-  passed = close_passed (kinds h) (kinds g) s r k f (innermost_of_kinds h ∙ i) p (ap kinds c ∙ kinds_closed h);
-  makes = close_makes false h g k f i c;
-  repeats_none = close_makes once h g k f i c;
+  passed = close_passed (kinds h) (kinds (after_close h)) s r k f (innermost_of_kinds h ∙ i) p (kinds_closed h);
+  makes = close_makes false h s r k f i;
+  repeats_none = close_makes once h s r k f i;
 }
 
 goes_to_element : (once : Bool) (h : Hole) (k : Kind) → innermost h ≡ Some k → k ≡ kind.Seq → (es : List Step)
     → outcome once false h (element ∷ es) ≡ outcome once true h es
 goes_to_element once (outside ts) k i q es = absurd (cc)
-goes_to_element once (in_list ts h) k i q es = goes_on once false (in_list ts h) element true (in_list ts h) (and-false once) refl es
+goes_to_element once (in_list ts h) k i q es = goes_on once false (in_list ts h) element (and-false once) refl es
 goes_to_element once (in_members ms n h) k i q es = absurd (cc)
 
-element_makes : (once : Bool) (h g : Hole) (k : Kind) (f : Bool) → innermost h ≡ Some k → k ≡ kind.Seq → g ≡ h
-    → HoleAdvancesBy once (first_or_after f) h (element ∷ []) due g
-element_makes once h g k f i q e = λ es. ap (λ z. outcome once z h (element ∷ es)) (not_due f) ∙ goes_to_element
-    once h k i q es ∙ ap (λ z. outcome once true z es) (sym e)
+element_makes : (once : Bool) (h : Hole) (s r : List ℕ) {k : Kind} (f : Bool) → innermost h ≡ Some k → k ≡ kind.Seq
+    → HoleAdvancesBy once (state_before f h s) (element ∷ []) (state_due h r)
+element_makes once h s r {k = k} f i q = λ es. ap (λ z. outcome once z h (element ∷ es)) (not_due f) ∙ goes_to_element once h k i q es
 
 -- if the innermost container is an array and an element is next, the event `element` leaves the hole as it is, and a
 -- value is due
-pub element_builds : (once : Bool) (h g : Hole) (s u r : List ℕ) (k : Kind) (f : Bool) → innermost h ≡ Some k
-    → k ≡ kind.Seq → Follows k f false s u → r ≡ u → g ≡ h → Builds once (first_or_after f) h s due g r
-element_builds once h g s u r k f i q p d e = record {
+pub element_builds : (once : Bool) (h : Hole) {s r : List ℕ} (k : Kind) (f : Bool) → innermost h ≡ Some k
+    → k ≡ kind.Seq → Follows k f false s r → Builds once (state_before f h s) (state_due h r)
+element_builds once h {s = s} {r = r} k f i q p = record {
   done = element ∷ [];
-  passed = subst (λ z. Consumes (first_or_after f) (kinds h) s (element ∷ []) due (kinds z) r) (sym e)
-      (subst (λ z. Consumes (first_or_after f) (kinds h) s (element ∷ []) due (kinds h) z) (sym d)
-      (element_passed (kinds h) s u k f (innermost_of_kinds h ∙ i) q p));
-  makes = element_makes false h g k f i q e;
-  repeats_none = element_makes once h g k f i q e;
+  passed = element_passed (kinds h) s r k f (innermost_of_kinds h ∙ i) q p;
+  makes = element_makes false h s r f i q;
+  repeats_none = element_makes once h s r f i q;
 }
 
-goes_to_member : (once : Bool) (h : Hole) (n : List ℕ) (k : Kind) → innermost h ≡ Some k → k ≡ kind.Map
+-- In the text s a member of the name n is next, in the hole's innermost container, which is an object; `opened` says that
+-- its opening bracket was just taken. u is the text behind the name.
+pub record MemberNext (h : Hole) (opened : Bool) (s n u : List ℕ) : Type 0 where
+  pub container : Kind
+  -- the text from the name on
+  pub names : List ℕ
+  pub inside : innermost h ≡ Some container
+  pub is_object : container ≡ kind.Map
+  pub follows : Follows container opened false s names
+  pub is_name : Names names n u
+
+goes_to_member : (once : Bool) (h : Hole) (n : List ℕ) {k : Kind} → innermost h ≡ Some k → k ≡ kind.Map
     → (once && has_member n h) ≡ false → (es : List Step)
     → outcome once false h (key n ∷ es) ≡ outcome once true (with_name n h) es
-goes_to_member once (outside ts) n k i q l es = absurd (cc)
-goes_to_member once (in_list ts h) n k i q l es = absurd (cc)
-goes_to_member once (in_members ms m h) n k i q l es =
-    goes_on once false (in_members ms m h) (key n) true (in_members ms (Some n) h) l refl es
+goes_to_member once (outside ts) n i q l es = absurd (cc)
+goes_to_member once (in_list ts h) n i q l es = absurd (cc)
+goes_to_member once (in_members ms m h) n i q l es = goes_on once false (in_members ms m h) (key n) l refl es
 
-key_makes : (once : Bool) (h g : Hole) (n : List ℕ) (k : Kind) (f : Bool) → innermost h ≡ Some k → k ≡ kind.Map
-    → (once && has_member n h) ≡ false → g ≡ with_name n h → HoleAdvancesBy once (first_or_after f) h (key n ∷ []) due
-    g
-key_makes once h g n k f i q l e = λ es. ap (λ z. outcome once z h (key n ∷ es)) (not_due f) ∙ goes_to_member once h
-    n k i q l es ∙ ap (λ z. outcome once true z es) (sym e)
+key_makes : (once : Bool) {h : Hole} {f : Bool} {s n u : List ℕ} → MemberNext h f s n u → (once && has_member n h) ≡ false
+    → HoleAdvancesBy once (state_before f h s) (key n ∷ []) (state_due (with_name n h) u)
+key_makes once {h = h} {f = f} {n = n} p l = λ es. ap (λ z. outcome once z h (key n ∷ es)) (not_due f)
+    ∙ goes_to_member once h n p.inside p.is_object l es
 
 kinds_named : (h : Hole) (n : List ℕ) → kinds (with_name n h) ≡ kinds h
 kinds_named (outside ts) n = refl
@@ -186,23 +190,22 @@ kinds_next : (n : Option (List ℕ)) (h : Hole) → kinds (with_next_name n h) �
 kinds_next None h = refl
 kinds_next (Some n) h = kinds_named h n
 
-key_done : (h : Hole) (s b n u : List ℕ) (k : Kind) (f : Bool) → innermost h ≡ Some k → k ≡ kind.Map
-    → Follows k f false s b → Names b n u → Consumes (first_or_after f) (kinds h) s (key n ∷ []) due (kinds h) u
-key_done h s b n u k f i q p w = key_passed (kinds h) s b n u k f (innermost_of_kinds h ∙ i) q p w
+key_done : {h : Hole} {f : Bool} {s n u : List ℕ} → MemberNext h f s n u
+    → Consumes (first_or_after f) (kinds h) s (key n ∷ []) due (kinds h) u
+key_done {h = h} {f = f} {s = s} {n = n} {u = u} p =
+    key_passed (kinds h) s p.names n u p.container f (innermost_of_kinds h ∙ p.inside) p.is_object p.follows p.is_name
 
--- if a member is next in the innermost object, and `once` allows its name, the text builds the hole with the name
-pub key_builds : (once : Bool) (h g : Hole) (s b n u r : List ℕ) (k : Kind) (f : Bool) → innermost h ≡ Some k
-    → k ≡ kind.Map → Follows k f false s b → Names b n u → (once && has_member n h) ≡ false → r ≡ u
-    → g ≡ with_name n h → Builds once (first_or_after f) h s due g r
-key_builds once h g s b n u r k f i q p w l d e = record {
-  done = key n ∷ [];
-  passed = subst (λ z. Consumes (first_or_after f) (kinds h) s (key n ∷ []) due z r)
-      (sym (ap kinds e ∙ kinds_named h n))
-      (subst (λ z. Consumes (first_or_after f) (kinds h) s (key n ∷ []) due (kinds h) z) (sym d)
-      (key_done h s b n u k f i q p w));
-  makes = key_makes false h g n k f i q refl e;
-  repeats_none = key_makes once h g n k f i q l e;
-}
+-- if a member is next in the innermost object, and `once` allows its name, the text builds the hole g with the name
+pub key_builds : (once : Bool) {h g : Hole} {f : Bool} {s n u : List ℕ} → MemberNext h f s n u
+    → (once && has_member n h) ≡ false → g ≡ with_name n h → Builds once (state_before f h s) (state_due g u)
+key_builds once {h = h} {f = f} {s = s} {n = n} {u = u} p l e =
+    subst (λ z. Builds once (state_before f h s) (state_due z u)) (sym e)
+    (record {
+      done = key n ∷ [];
+      passed = subst (λ z. Consumes (first_or_after f) (kinds h) s (key n ∷ []) due z u) (sym (kinds_named h n)) (key_done p);
+      makes = key_makes false p refl;
+      repeats_none = key_makes once p l;
+    })
 
 start_new : (once : Bool) (e : Step) (h g : Hole) → after_begin e h ≡ Some g → (once && repeats e h) ≡ false
 start_new once step.null h g b = and-false once
@@ -219,11 +222,12 @@ start_new once finish h g b = absurd (cc)
 
 start_makes : (once : Bool) (e : Step) (h g : Hole) → after_begin e h ≡ Some g → (es : List Step)
     → outcome once true h (e ∷ es) ≡ outcome once false g es
-start_makes once e h g b es = goes_on once true h e false g (start_new once e h g b) (ap (option_map (λ (z : Hole). (false, z))) b) es
+start_makes once e h g b es = goes_on once true h e (start_new once e h g b) (ap (option_map (λ (z : Hole). (false, z))) b) es
 
-pub start_builds : (once : Bool) (h g : Hole) (s r : List ℕ) (e : Step) (f : Bool) → Starts s e r
-    → f ≡ is_some (opened_kind e) → after_begin e h ≡ Some g → Builds once due h s (first_or_after f) g r
-start_builds once h g s r e f p q b = record {
+-- if a text starts with e, and e makes g of the hole h, the text builds g
+pub start_builds : (once : Bool) (h g : Hole) {s r : List ℕ} (e : Step) {f : Bool} → Starts s e r
+    → f ≡ is_some (opened_kind e) → after_begin e h ≡ Some g → Builds once (state_due h s) (state_before f g r)
+start_builds once h g {s = s} {r = r} e {f = f} p q b = record {
   done = e ∷ [];
   passed = value_passed (kinds h) s r e f (kinds g) p q (kinds_begun e h g b);
   makes = λ es. start_makes false e h g b es ∙ ap (λ z. outcome false z g es) (sym (not_due f));
@@ -233,25 +237,22 @@ start_builds once h g s r e f p q b = record {
 -- ---- several
 
 -- two steps that build holes, one after the other, are one step
-pub Builds-append : (once : Bool) (m : Moment) (h : Hole) (s : List ℕ) (n : Moment) (g : Hole) (u : List ℕ)
-    (m' : Moment) (h' : Hole) (s' : List ℕ) → Builds once m h s n g u → Builds once n g u m' h' s'
-    → Builds once m h s m' h' s'
-Builds-append once m h s n g u m' h' s' p q = record {
+pub Builds-append : (once : Bool) {from mid to : ReaderState} → Builds once from mid → Builds once mid to → Builds once from to
+Builds-append once {from = from} {mid = mid} {to = to} p q = record {
   done = p.done ++ q.done;
-  passed = Consumes-append m (kinds h) s p.done n (kinds g) u q.done m' (kinds h') s' p.passed q.passed;
-  makes = λ es. ap (outcome false (is_due m) h) (append_assoc p.done q.done es) ∙ p.makes (q.done ++ es) ∙ q.makes es;
-  repeats_none = λ es. ap (outcome once (is_due m) h) (append_assoc p.done q.done es) ∙ p.repeats_none (q.done ++ es) ∙ q.repeats_none es;
+  passed = Consumes-append from.moment (kinds from.hole) from.rest p.done mid.moment (kinds mid.hole) mid.rest q.done
+      to.moment (kinds to.hole) to.rest p.passed q.passed;
+  makes = λ es. ap (outcome_at false from) (append_assoc p.done q.done es) ∙ p.makes (q.done ++ es) ∙ q.makes es;
+  repeats_none = λ es. ap (outcome_at once from) (append_assoc p.done q.done es) ∙ p.repeats_none (q.done ++ es) ∙ q.repeats_none es;
 }
 
--- a child's name, if it has one, and its first token are taken after the events before it
-pub child_builds : (once : Bool) (m : Moment) (h : Hole) (s : List ℕ) (f : Bool) (g : Hole) (t : List ℕ) (k : Hole)
-    (u : List ℕ) (e d : Step) (o : Bool) (l : Hole) (r : List ℕ) → Builds once m h s (first_or_after f) g t
-    → Builds once (first_or_after f) g t due k u → Starts u e r → d ≡ e → o ≡ is_some (opened_kind d)
-    → after_begin d k ≡ Some l → Builds once m h s (first_or_after o) l r
-child_builds once m h s f g t k u e d o l r b n p w q a =
-    Builds-append once m h s due k u (first_or_after o) l r
-    (Builds-append once m h s (first_or_after f) g t due k u b n)
-    (start_builds once k l u r e o p (q ∙ ap (λ z. is_some (opened_kind z)) w) (ap (λ z. after_begin z k) (sym w) ∙ a))
+-- a child's first token is taken, behind its name, if it has one, and behind the events before it
+pub child_builds : (once : Bool) {from mid : ReaderState} {h g : Hole} {s r : List ℕ} {e d : Step} {opened : Bool}
+    → Builds once from mid → Builds once mid (state_due h s) → Starts s e r → d ≡ e → opened ≡ is_some (opened_kind d)
+    → after_begin d h ≡ Some g → Builds once from (state_before opened g r)
+child_builds once {h = h} {g = g} {e = e} before named starts same opens begun =
+    Builds-append once (Builds-append once before named)
+    (start_builds once h g e starts (opens ∙ ap (λ z. is_some (opened_kind z)) same) (ap (λ z. after_begin z h) (sym same) ∙ begun))
 
 -- ---- the innermost container stays
 
@@ -270,34 +271,39 @@ leaf_stays n e h g b f =
 -- ---- what can give no value
 
 -- if no prefix of the text closes all containers, no events give a tree
-pub stuck : (once : Bool) (m : Moment) (h : Hole) (s : List ℕ) → NeverRuns m (kinds h) s → NeverGives once m h s
-stuck once m h s n es r g = absurd (n es r g)
+pub stuck : (once : Bool) (now : ReaderState) → NeverRuns now.moment (kinds now.hole) now.rest → NeverGives once now
+stuck once now n es r g = absurd (n es r g)
 
 -- if no events give a tree behind a step that builds a hole, none give one before it
-pub never_behind : (once : Bool) (m : Moment) (h : Hole) (s : List ℕ) (m' : Moment) (h' : Hole) (s' : List ℕ)
-    → Builds once m h s m' h' s' → NeverGives once m' h' s' → NeverGives once m h s
-never_behind once m h s m' h' s' p n es r g =
+pub never_behind : (once : Bool) {from to : ReaderState} → Builds once from to → NeverGives once to → NeverGives once from
+never_behind once {from = from} p n es r g =
     let a = p.passed.back es r g in
-    ap (outcome once (is_due m) h) a.1 ∙ p.repeats_none a.0 ∙ n a.0 r a.2
+    ap (outcome_at once from) a.1 ∙ p.repeats_none a.0 ∙ n a.0 r a.2
 
 -- a name that the object has, where none may be repeated
-pub repeat_gives : (once : Bool) (h : Hole) (s b n u : List ℕ) (k : Kind) (f : Bool) → innermost h ≡ Some k
-    → k ≡ kind.Map → Follows k f false s b → Names b n u → (once && has_member n h) ≡ true
-    → NeverGives once (first_or_after f) h s
-repeat_gives once h s b n u k f i q p w l es r g =
-    let a = (key_done h s b n u k f i q p w).back es r g in
+pub repeat_gives : (once : Bool) {h : Hole} {f : Bool} {s n u : List ℕ} → MemberNext h f s n u
+    → (once && has_member n h) ≡ true → NeverGives once (state_before f h s)
+repeat_gives once {h = h} {f = f} {n = n} p l es r g =
+    let a = (key_done p).back es r g in
     let rest : Bool × Hole → Option Tree = λ x. outcome once x.0 x.1 a.0 in
     ap (λ z. outcome once z h es) (not_due f) ∙ ap (outcome once false h) a.1
     ∙ ap (λ z. option_and_then rest (cond z None (after_step false h (key n)))) l
 
 -- ---- a whole value
 
+-- The first event e of a value was taken, and then those that build the state `now`. s is the text behind the value's
+-- first token.
+pub record BuiltSince (once : Bool) (e : Step) (s : List ℕ) (now : ReaderState) : Type 0 where
+  -- the hole after e
+  pub hole : Hole
+  pub is_hole : after_begin e (outside []) ≡ Some hole
+  pub builds : Builds once (state_before (is_some (opened_kind e)) hole s) now
+
 -- its first token was taken
 pub builds_init : (once : Bool) (e : Step) (h : Hole) (f : Bool) (s : List ℕ) → f ≡ is_some (opened_kind e)
-    → after_begin e (outside []) ≡ Some h → Builds once (first_or_after (is_some (opened_kind e))) h s
-    (first_or_after f) h s
+    → after_begin e (outside []) ≡ Some h → Builds once (state_before (is_some (opened_kind e)) h s) (state_before f h s)
 builds_init once e h f s q b =
-    subst (λ z. Builds once (first_or_after (is_some (opened_kind e))) h s (first_or_after z) h s) (sym q)
+    subst (λ z. Builds once (state_before (is_some (opened_kind e)) h s) (state_before z h s)) (sym q)
     (record {
       done = [];
       passed = Consumes-none (first_or_after (is_some (opened_kind e))) (kinds h) s
@@ -309,33 +315,36 @@ builds_init once e h f s q b =
     })
 
 -- no container is left open
-pub read_ok : (once : Bool) (x : token.Event) (scratch s s' : List ℕ) (h : Hole) (f : Bool) (g : Hole)
-    → after_begin (event_of_token x scratch) (outside []) ≡ Some h → innermost g ≡ None
-    → Builds once (first_or_after (is_some (opened_kind (event_of_token x scratch)))) h s (first_or_after f) g s'
-    → (t : Tree) × ValueAt t (event_of_token x scratch) s s' × (complete_tree g ≡ Some (retained_tree t))
+pub read_ok : (once : Bool) (x : token.Event) (scratch : List ℕ) {s r : List ℕ} (f : Bool) (g : Hole) → innermost g ≡ None
+    → BuiltSince once (event_of_token x scratch) s (state_before f g r)
+    → (t : Tree) × ValueAt t (event_of_token x scratch) s r × (complete_tree g ≡ Some (retained_tree t))
     × (complete_tree g ≡ retained_if once t)
-read_ok once x scratch s s' h true (outside ts) b i p = absurd p.passed.live
-read_ok once x scratch s s' h false (outside ts) b i p =
+read_ok once x scratch true (outside ts) i p = absurd p.builds.passed.live
+read_ok once x scratch {s = s} {r = r} false (outside ts) i p =
     let e = event_of_token x scratch in
+    let h = p.hole in
+    let done = p.builds.done in
     let m = first_or_after (is_some (opened_kind e)) in
-    let runs : Runs m p.done (with_opened (opened_kind e) []) s s' =
-    subst (λ z. Runs m p.done z s s') (kinds_begun e (outside []) h b)
-    (subst (λ z. Runs m z (kinds h) s s') (append-nil p.done) (p.passed.on [] s' refl)) in
-    let w = whole_at x scratch p.done s s' runs in
-    let ends : (o : Bool) → HoleAdvancesBy o m h p.done after (outside ts) → complete_tree (outside ts) ≡ retained_if o w.tree = λ o makes.
-    sym (makes []) ∙ ap (λ z. outcome o z h (p.done ++ [])) (not_due (is_some (opened_kind e))) ∙ ap (outcome o false h) (append-nil p.done)
-    ∙ sym (start_makes o e (outside []) h b p.done) ∙ ap (outcome o true (outside [])) w.is ∙ gives-kept o w.tree in
-    (w.tree, w.is_value, ends false p.makes, ends once p.repeats_none)
-read_ok once x scratch s s' h f (in_list ts g) b i p = absurd (cc)
-read_ok once x scratch s s' h f (in_members ms n g) b i p = absurd (cc)
+    let runs : Runs m done (with_opened (opened_kind e) []) s r =
+    subst (λ z. Runs m done z s r) (kinds_begun e (outside []) h p.is_hole)
+    (subst (λ z. Runs m z (kinds h) s r) (append-nil done) (p.builds.passed.on [] r refl)) in
+    let w = whole_at x scratch done s r runs in
+    let ends : (o : Bool)
+    → HoleAdvancesBy o (state_before (is_some (opened_kind e)) h s) done (state_before false (outside ts) r)
+    → complete_tree (outside ts) ≡ retained_if o w.tree = λ o makes.
+    sym (makes []) ∙ ap (λ z. outcome o z h (done ++ [])) (not_due (is_some (opened_kind e))) ∙ ap (outcome o false h) (append-nil done)
+    ∙ sym (start_makes o e (outside []) h p.is_hole done) ∙ ap (outcome o true (outside [])) w.is ∙ gives-kept o w.tree in
+    (w.tree, w.is_value, ends false p.builds.makes, ends once p.builds.repeats_none)
+read_ok once x scratch f (in_list ts g) i p = absurd (cc)
+read_ok once x scratch f (in_members ms n g) i p = absurd (cc)
 
 -- no tree that the text spells is kept
-pub read_none : (once : Bool) (e : Step) (h : Hole) (s : List ℕ) → after_begin e (outside []) ≡ Some h
-    → NeverGives once (first_or_after (is_some (opened_kind e))) h s → (t : Tree) (r : List ℕ) → ValueAt t e s r
-    → retained_if once t ≡ None
-read_none once e h s b n t r v =
+pub read_none : (once : Bool) {e : Step} {s : List ℕ} {now : ReaderState} → BuiltSince once e s now → NeverGives once now
+    → (t : Tree) (r : List ℕ) → ValueAt t e s r → retained_if once t ≡ None
+read_none once {e = e} {s = s} p n t r v =
+    let h = p.hole in
     let l = value_later t e s r v in
-    let none = n l.later r (subst (λ z. Runs (first_or_after (is_some (opened_kind e))) l.later z s r)
-    (sym (kinds_begun e (outside []) h b)) l.runs) in
-    sym (gives-kept once t) ∙ ap (outcome once true (outside [])) l.is ∙ start_makes once e (outside []) h b l.later
+    let none = never_behind once p.builds n l.later r
+    (subst (λ z. Runs (first_or_after (is_some (opened_kind e))) l.later z s r) (sym (kinds_begun e (outside []) h p.is_hole)) l.runs) in
+    sym (gives-kept once t) ∙ ap (outcome once true (outside [])) l.is ∙ start_makes once e (outside []) h p.is_hole l.later
     ∙ ap (λ z. outcome once z h l.later) (sym (not_due (is_some (opened_kind e)))) ∙ none

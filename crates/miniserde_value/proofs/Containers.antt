@@ -42,40 +42,51 @@ fits_changed n os k p ms h f =
     (fits_other n (get_or os k p) p (reverse (take k os)) ms (subst (λ (qs : List OpenObject). Fits n qs ms) (reverse_last os k p h) f))
 
 -- marks fit after an object was opened, whether or not there was memory for its mark
-pub fits_opened : {A E : Type 0} (r : Result A E) (n : ℕ) (os qs : List OpenObject) (o : OpenObject)
-    (ms ns : List OpenContainer) → qs ≡ os ++ o ∷ [] → ns ≡ (if is_ok r then ms ++ container.Object ∷ [] else ms)
+pub fits_opened : {A E : Type 0} {qs : List OpenObject} {ns : List OpenContainer} (r : Result A E) (n : ℕ)
+    (os : List OpenObject) (o : OpenObject) (ms : List OpenContainer) → qs ≡ os ++ o ∷ []
+    → ns ≡ (if is_ok r then ms ++ container.Object ∷ [] else ms)
     → Fits n (reverse os) (reverse ms) → Fits n (reverse qs) (reverse ns)
-fits_opened (Ok u) n os qs o ms ns e d f =
+fits_opened {qs = qs} {ns = ns} (Ok u) n os o ms e d f =
     subst (λ (l : List OpenObject). Fits n l (reverse ns)) (sym (reverse_added os qs o e))
     (subst (λ (l : List OpenContainer). Fits n (o ∷ reverse os) l) (sym (reverse_added ms ns container.Object d)) (omega arith, f))
-fits_opened (Err u) n os qs o ms ns e d f =
+fits_opened {qs = qs} {ns = ns} (Err u) n os o ms e d f =
     subst (λ (l : List OpenObject). Fits n l (reverse ns)) (sym (reverse_added os qs o e))
     (subst (λ (l : List OpenContainer). Fits n (o ∷ reverse os) (reverse l)) (sym d) (fits_more n o (reverse os) (reverse ms) f))
 
+-- the values of `old` from the index v on were taken out, which left `new`, unless there was no memory for it
+pub record TakenFrom {A E : Type 0} (r : Result A E) (old new : Vec Value Global) (v : ℕ) : Type 0 where
+  pub taken : OnOk r (new.items ≡ take v old.items)
+  pub unchanged : OnErr r (new ≡ old)
+
 -- marks fit after values were taken out, whether or not there was memory for it
-pub fits_split : {A E : Type 0} (r : Result A E) (old new : Vec Value Global) (v : ℕ) (os : List OpenObject)
-    (ms : List OpenContainer) → OnOk r (new.items ≡ take v old.items) → OnErr r (new ≡ old) → (v ≤ length old.items)
-    × Fits v os ms → Fits (length new.items) os ms
-fits_split (Ok u) old new v os ms a b f =
-    let same : length new.items ≡ length (take v old.items) = ap length a in
+pub fits_split : {A E : Type 0} {old new : Vec Value Global} {v : ℕ} (r : Result A E) (os : List OpenObject)
+    (ms : List OpenContainer) → TakenFrom r old new v → (v ≤ length old.items) × Fits v os ms → Fits (length new.items) os ms
+fits_split {old = old} {new = new} {v = v} (Ok u) os ms t f =
+    let same : length new.items ≡ length (take v old.items) = ap length t.taken in
     fits_longer v (length new.items) os ms (omega (arith, same, f.0, length-take v old.items)) f.1
-fits_split (Err u) old new v os ms a b f =
-    let same : length new.items ≡ length old.items = ap (λ (w : Vec Value Global). length w.items) b in
+fits_split {old = old} {new = new} {v = v} (Err u) os ms t f =
+    let same : length new.items ≡ length old.items = ap (λ (w : Vec Value Global). length w.items) t.unchanged in
     fits_longer v (length new.items) os ms (omega (arith, same, f.0)) f.1
 
 -- ---- where an object is the innermost container, it alone changes
 
+-- the innermost open container of ms is an object, and o is the last of the open objects os, at the index k
+pub record ObjectInnermost (os : List OpenObject) (k : ℕ) (o : OpenObject) (ms : List OpenContainer) : Type 0 where
+  pub below : List OpenContainer
+  pub there : o ≡ get_or os k o
+  pub is_last : length os ≡ suc k
+  pub on_top : reverse ms ≡ container.Object ∷ below
+
 -- if f replaces the open object o by p in each hole, and o is innermost, to set p for o changes the hole by f
-pub object_changed : (f : Hole → Hole) (vs : List Tree) (os : List OpenObject) (k : ℕ) (o p : OpenObject)
-    (ms below : List OpenContainer) → length os ≡ suc k → o ≡ get_or os k o → reverse ms ≡ container.Object ∷ below
-    → ((h : Hole) → with_open_object p h ≡ f (with_open_object o h))
+pub object_changed : {k : ℕ} {o : OpenObject} (f : Hole → Hole) (vs : List Tree) (os : List OpenObject) (p : OpenObject)
+    (ms : List OpenContainer) → ObjectInnermost os k o ms → ((h : Hole) → with_open_object p h ≡ f (with_open_object o h))
     → hole_of vs (reverse (set os k p)) (reverse ms) ≡ f (hole_of vs (reverse os) (reverse ms))
-object_changed f vs os k o p ms below len is top h =
-    ap (hole_of vs (reverse (set os k p))) top
-    ∙ ap (λ (qs : List OpenObject). hole_of vs qs (container.Object ∷ below)) (reverse_set os k p len)
-    ∙ h (hole_of vs (reverse (take k os)) below)
-    ∙ ap (λ (qs : List OpenObject). f (hole_of vs qs (container.Object ∷ below))) (sym (reverse_ends os k o o len is))
-    ∙ ap (λ (ns : List OpenContainer). f (hole_of vs (reverse os) ns)) (sym top)
+object_changed {k = k} {o = o} f vs os p ms i h =
+    ap (hole_of vs (reverse (set os k p))) i.on_top
+    ∙ ap (λ (qs : List OpenObject). hole_of vs qs (container.Object ∷ i.below)) (reverse_set os k p i.is_last)
+    ∙ h (hole_of vs (reverse (take k os)) i.below)
+    ∙ ap (λ (qs : List OpenObject). f (hole_of vs qs (container.Object ∷ i.below))) (sym (reverse_ends os k o o i.is_last i.there))
+    ∙ ap (λ (ns : List OpenContainer). f (hole_of vs (reverse os) ns)) (sym i.on_top)
 
 -- if an object is the innermost container, it is the first of the open containers
 pub object_on_top : (vs : List Tree) (os : List OpenObject) (ms : List OpenContainer)
@@ -93,12 +104,11 @@ object_is_open n vs os ms f e =
     omega (arith, some, length-reverse os)
 
 -- the name that the innermost object has for its next value is the hole's
-pub pending_last : (vs : List Tree) (os : List OpenObject) (k : ℕ) (o : OpenObject) (ms below : List OpenContainer)
-    → length os ≡ suc k → o ≡ get_or os k o → reverse ms ≡ container.Object ∷ below
-    → pending (hole_of vs (reverse os) (reverse ms)) ≡ next_name o
-pending_last vs os k o ms below len is top =
-    ap (λ (ns : List OpenContainer). pending (hole_of vs (reverse os) ns)) top
-    ∙ ap first_next_name (reverse_ends os k o o len is)
+pub pending_last : {k : ℕ} {o : OpenObject} (vs : List Tree) (os : List OpenObject) (ms : List OpenContainer)
+    → ObjectInnermost os k o ms → pending (hole_of vs (reverse os) (reverse ms)) ≡ next_name o
+pending_last {k = k} {o = o} vs os ms i =
+    ap (λ (ns : List OpenContainer). pending (hole_of vs (reverse os) ns)) i.on_top
+    ∙ ap first_next_name (reverse_ends os k o o i.is_last i.there)
 
 -- ---- where an array is the innermost container, its items alone change
 
@@ -111,10 +121,10 @@ item_added vs t os (container.Array v ∷ ms) f e =
 item_added vs t os (container.Object ∷ ms) f e = absurd (cc)
 
 -- if an array is the innermost container, to add v to the values is to put v into the hole
-pub item_put : (old new : List Value) (v : Value) (os : List OpenObject) (ms : List OpenContainer) → new ≡ old ++ v ∷ []
+pub item_put : {new : List Value} (old : List Value) (v : Value) (os : List OpenObject) (ms : List OpenContainer) → new ≡ old ++ v ∷ []
     → Fits (length old) os ms → innermost (hole_of (map content_of old) os ms) ≡ Some kind.Seq
     → hole_of (map content_of new) os ms ≡ put (content_of v) (hole_of (map content_of old) os ms)
-item_put old new v os ms e f i =
+item_put old v os ms e f i =
     ap (λ (l : List Value). hole_of (map content_of l) os ms) e
     ∙ ap (λ (l : List Tree). hole_of l os ms) (map-append content_of old (v ∷ []))
     ∙ item_added (map content_of old) (content_of v) os ms

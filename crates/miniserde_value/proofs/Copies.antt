@@ -21,22 +21,19 @@ whole_fronts : (t : Tree) → IsOrdered t → complete_tree (hole_after (outside
 whole_fronts t o = ap complete_tree (built_fronts (outside []) t []) ∙ ap (λ (u : Tree). Some u) (kept_ordered t o)
 
 -- a builder that opens and then adds all that a walk over an array or an object meets has its tree
-pub array_copied : (r : Option Value) (a : Array) (empty opened filled : Hole) (fs : List TreeVisit)
-    → option_map content_of r ≡ complete_tree filled → filled ≡ hole_after opened fs → opened ≡ in_list [] empty
-    → empty ≡ outside [] → list_begins ∷ fs ≡ visits (array_content a) [] → IsOrdered (array_content a)
+pub array_copied : (r : Option Value) (a : Array) {opened filled : Hole} {fs : List TreeVisit}
+    → option_map content_of r ≡ complete_tree filled → filled ≡ hole_after opened fs → opened ≡ in_list [] (outside [])
+    → list_begins ∷ fs ≡ visits (array_content a) [] → IsOrdered (array_content a)
     → option_map content_of r ≡ Some (array_content a)
-array_copied r a empty opened filled fs whole_is filled_is opened_is empty_is fs_is o =
+array_copied r a {fs = fs} whole_is filled_is opened_is fs_is o =
     whole_is ∙ ap complete_tree filled_is ∙ ap (λ h. complete_tree (hole_after h fs)) opened_is
-    ∙ ap (λ h. complete_tree (hole_after h (list_begins ∷ fs))) empty_is
     ∙ ap (λ gs. complete_tree (hole_after (outside []) gs)) fs_is ∙ whole_fronts (array_content a) o
 
 -- a builder that opens an object and takes the other visits of an ordered object gives its tree
-pub object_copied : (r : Option Value) (m : Object) (empty opened filled : Hole) (fs : List TreeVisit)
-    → option_map content_of r ≡ complete_tree filled → filled ≡ hole_after opened fs
-    → opened ≡ in_members no_members None empty → empty ≡ outside []
+pub object_copied : (r : Option Value) (m : Object) {opened filled : Hole} {fs : List TreeVisit}
+    → option_map content_of r ≡ complete_tree filled → filled ≡ hole_after opened fs → opened ≡ in_members no_members None (outside [])
     → members_begin ∷ fs ≡ visits (object_content m) [] → IsOrdered (object_content m)
     → option_map content_of r ≡ Some (object_content m)
-object_copied r m empty opened filled fs whole_is filled_is opened_is empty_is fs_is o =
+object_copied r m {fs = fs} whole_is filled_is opened_is fs_is o =
     whole_is ∙ ap complete_tree filled_is ∙ ap (λ h. complete_tree (hole_after h fs)) opened_is
-    ∙ ap (λ h. complete_tree (hole_after h (members_begin ∷ fs))) empty_is
     ∙ ap (λ gs. complete_tree (hole_after (outside []) gs)) fs_is ∙ whole_fronts (object_content m) o

@@ -28,56 +28,60 @@ pub record GaveItem (frames frames_after : List Frame) (it next : Iter Value) (i
   pub gave : iter_rest it ≡ item ∷ iter_rest next
 
 -- if the innermost array gives an item, `element` and the visits of the item are the first ones that were left
-pub item_left : (frames frames_after : List Frame) (objects : List Entries) (it next : Iter Value) (item : Value)
+pub item_left : {frames frames_after : List Frame} {it next : Iter Value} {item : Value} (objects : List Entries)
     → GaveItem frames frames_after it next item → stack_left (reverse frames) objects ≡ element ∷ visits (content_of item)
     (stack_left (reverse frames_after) objects)
-item_left frames frames_after objects it next item g =
+item_left {item = item} objects g =
     let rest = stack_left g.others objects in
     ap (λ (x : List Frame). stack_left x objects) g.before
     ∙ ap (λ (xs : List Value). child_visits (trees_of content_of xs) (list_ends ∷ rest)) g.gave
     ∙ ap (λ (x : List Frame). element ∷ visits (content_of item) (stack_left x objects)) (sym g.after)
 
 -- if the item that was given is ordered, and all that is left is, all that was left is ordered
-pub item_ordered : (frames frames_after : List Frame) (objects : List Entries) (it next : Iter Value) (item : Value)
+pub item_ordered : {frames frames_after : List Frame} {it next : Iter Value} {item : Value} (objects : List Entries)
     → GaveItem frames frames_after it next item → IsOrdered (content_of item) → StackNamesRise (reverse frames_after) objects
     → StackNamesRise (reverse frames) objects
-item_ordered frames frames_after objects it next item g o p =
+item_ordered objects g o p =
     let r = subst (λ (x : List Frame). StackNamesRise x objects) g.after p in
     let items = subst (λ (xs : List Value). AreOrdered (trees_of content_of xs)) (sym g.gave) (o, r.0) in
     subst (λ (x : List Frame). StackNamesRise x objects) (sym g.before) (items, r.1)
 
 -- an object, whose iterator gave a member: the open containers and objects before and after
-pub record GaveMember (frames frames_after : List Frame) (objects objects_after : List Entries) (ms next : Entries) (text : List ℕ)
+pub record GaveMember (frames frames_after : List Frame) (objects objects_after : List Entries) (text : List ℕ)
     (value : Value) : Type 0 where
+  -- the members of the object that were left, before and after
+  pub members : Entries
+  pub members_after : Entries
   pub below : List Frame
   pub others : List Entries
   pub key : String Global
   pub is_object : reverse frames ≡ frame.Object ∷ below
   pub is_still : reverse frames_after ≡ frame.Object ∷ below
-  pub before : reverse objects ≡ ms ∷ others
-  pub after : reverse objects_after ≡ next ∷ others
-  pub gave : ms ≡ (key, value) ∷ next
+  pub before : reverse objects ≡ members ∷ others
+  pub after : reverse objects_after ≡ members_after ∷ others
+  pub gave : members ≡ (key, value) ∷ members_after
   pub named : text ≡ string_bytes key
 
 -- if the innermost object gives a member, its name and the visits of its value are the first ones that were left
-pub member_left : (frames frames_after : List Frame) (objects objects_after : List Entries) (ms next : Entries) (text : List ℕ)
-    (value : Value) → GaveMember frames frames_after objects objects_after ms next text value
+pub member_left : {frames frames_after : List Frame} {objects objects_after : List Entries} {text : List ℕ} {value : Value}
+    → GaveMember frames frames_after objects objects_after text value
     → stack_left (reverse frames) (reverse objects) ≡ name text ∷ visits (content_of value)
     (stack_left (reverse frames_after) (reverse objects_after))
-member_left frames frames_after objects objects_after ms next text value g =
+member_left {objects = objects} {objects_after = objects_after} {text = text} {value = value} g =
     let rest = stack_left g.below g.others in
     ap (λ (x : List Frame). stack_left x (reverse objects)) g.is_object
     ∙ ap (λ (x : List Entries). stack_left (frame.Object ∷ g.below) x) g.before
     ∙ ap (λ (xs : Entries). member_visits (members_of string_bytes content_of xs) (members_end ∷ rest)) g.gave
-    ∙ ap (λ (t : List ℕ). name t ∷ visits (content_of value) (stack_left (frame.Object ∷ g.below) (next ∷ g.others))) (sym g.named)
+    ∙ ap (λ (t : List ℕ). name t ∷ visits (content_of value) (stack_left (frame.Object ∷ g.below) (g.members_after ∷ g.others)))
+    (sym g.named)
     ∙ ap (λ (x : List Entries). name text ∷ visits (content_of value) (stack_left (frame.Object ∷ g.below) x)) (sym g.after)
     ∙ ap (λ (x : List Frame). name text ∷ visits (content_of value) (stack_left x (reverse objects_after))) (sym g.is_still)
 
 -- if the value of the member that was given is ordered, and all that is left is, all that was left is ordered
-pub member_ordered : (frames frames_after : List Frame) (objects objects_after : List Entries) (ms next : Entries) (text : List ℕ)
-    (value : Value) → GaveMember frames frames_after objects objects_after ms next text value → IsOrdered (content_of value)
+pub member_ordered : {frames frames_after : List Frame} {objects objects_after : List Entries} {text : List ℕ} {value : Value}
+    → GaveMember frames frames_after objects objects_after text value → IsOrdered (content_of value)
     → StackNamesRise (reverse frames_after) (reverse objects_after) → StackNamesRise (reverse frames) (reverse objects)
-member_ordered frames frames_after objects objects_after ms next text value g o p =
+member_ordered {objects = objects} {objects_after = objects_after} g o p =
     let r = subst (λ (x : List Entries). StackNamesRise (frame.Object ∷ g.below) x) g.after
     (subst (λ (x : List Frame). StackNamesRise x (reverse objects_after)) g.is_still p) in
     let members = subst (λ (xs : Entries). AreOrderedMembers (members_of string_bytes content_of xs)) (sym g.gave) (o, r.0) in

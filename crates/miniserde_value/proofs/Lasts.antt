@@ -35,9 +35,9 @@ pub reverse_ends : {A : Type 0} → (xs : List A) (k : ℕ) (d x : A) → length
 reverse_ends xs k d x h e = reverse_last xs k d h ∙ ap (λ y. y ∷ reverse (take k xs)) (sym e)
 
 -- if y is the element at k of k + 1, the reverse is y and then the reverse of the first k
-pub reverse_ends_as : {A : Type 0} → (xs : List A) (k : ℕ) (d x y : A) → length xs ≡ suc k → x ≡ get_or xs k d
+pub reverse_ends_as : {A : Type 0} {k : ℕ} {x y : A} (xs : List A) (d : A) → length xs ≡ suc k → x ≡ get_or xs k d
     → x ≡ y → reverse xs ≡ y ∷ reverse (take k xs)
-reverse_ends_as xs k d x y h e is = reverse_ends xs k d x h e ∙ ap (λ z. z ∷ reverse (take k xs)) is
+reverse_ends_as {k = k} {x = x} xs d h e is = reverse_ends xs k d x h e ∙ ap (λ z. z ∷ reverse (take k xs)) is
 
 -- the last was got
 pub last_got : {A : Type 0} → (xs ys : List A) (x y : A) → ys ≡ xs → Some x ≡ slice_get ys (length ys - 1) → x ≡ y

@@ -9,11 +9,11 @@ use Rattle.std.specs.declared.cmp.Ordering.{Ordering}
 use Rattle.std.proofs.lemmas.Cmp.{tied_itself}
 
 -- an entry inserted at the first key replaces the first value
-pub replaced : {K X : Type 0} (cmp : K → K → Ordering) → IsTotalOrder cmp → (m n : List (K × X)) (k : K) (v w : X)
+pub replaced : {K X : Type 0} {n : List (K × X)} {v w : X} (cmp : K → K → Ordering) → IsTotalOrder cmp → (m : List (K × X)) (k : K)
     → slice_get (keys_of m) 0 ≡ Some k → slice_get (values_of m) 0 ≡ Some v → n ≡ insert_entry cmp m k w
     → (rest : List X) × (values_of m ≡ v ∷ rest) × (values_of n ≡ w ∷ rest)
-replaced cmp total [] n k v w hk hv hn = cc
-replaced {K} {X} cmp total (e ∷ es) n k v w hk hv hn =
+replaced cmp total [] k hk hv hn = cc
+replaced {K = K} {X = X} {v = v} {w = w} cmp total (e ∷ es) k hk hv hn =
     let at : e.0 ≡ k = cc in
     let is : e.1 ≡ v = cc in
     let tied = tied_itself total k in

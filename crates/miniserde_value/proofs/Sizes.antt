@@ -16,19 +16,36 @@ Alike no_members no_members = ⊤
 Alike (member n t ms) (member o u ns) = (n ≡ o) × (size t ≡ size u) × Alike ms ns
 Alike _ _ = ⊥
 
-placed_alike : (o : Ordering) (name : List ℕ) (t t' : Tree) (other : List ℕ) (u u' : Tree)
-    (ms ms' more more' : Members) → size t ≡ size t' → size u ≡ size u' → Alike ms ms' → Alike more more'
-    → Alike (with_if_absent_by o name t other u ms more) (with_if_absent_by o name t' other u' ms' more')
-placed_alike Less name t t' other u u' ms ms' more more' p q r s = (refl, p, (refl, q, r))
-placed_alike Equal name t t' other u u' ms ms' more more' p q r s = (refl, q, r)
-placed_alike Greater name t t' other u u' ms ms' more more' p q r s = (refl, q, s)
+-- two trees of equal size
+record SameSize : Type 0 where
+  pub one : Tree
+  pub two : Tree
+  pub same : size one ≡ size two
+
+-- two lists of members that are alike
+record BothAlike : Type 0 where
+  pub one : Members
+  pub two : Members
+  pub same : Alike one two
+
+-- if the trees and the members are alike in pairs, so are the members with the name put before or among them
+placed_alike : (o : Ordering) (name other : List ℕ) (t u : SameSize) (ms more : BothAlike)
+    → Alike (with_if_absent_by o name t.one other u.one ms.one more.one) (with_if_absent_by o name t.two other u.two ms.two more.two)
+placed_alike Less name other t u ms more = (refl, t.same, (refl, u.same, ms.same))
+placed_alike Equal name other t u ms more = (refl, u.same, ms.same)
+placed_alike Greater name other t u ms more = (refl, u.same, more.same)
 
 with_first_alike : (name : List ℕ) (t t' : Tree) (ms ms' : Members) → size t ≡ size t' → Alike ms ms'
     → Alike (with_if_absent name t ms) (with_if_absent name t' ms')
 with_first_alike name t t' no_members no_members p h = (refl, p, tt)
 with_first_alike name t t' (member o u ms) (member o' u' ms') p h =
-    rw h.0 (placed_alike (text_cmp name o') name t t' o' u u' ms ms' (with_if_absent name t ms)
-    (with_if_absent name t' ms') p h.1 h.2 (with_first_alike name t t' ms ms' p h.2))
+    rw h.0 (placed_alike (text_cmp name o') name o' (record { one = t; two = t'; same = p }) (record { one = u; two = u'; same = h.1 })
+    (record { one = ms; two = ms'; same = h.2 })
+    (record {
+      one = with_if_absent name t ms;
+      two = with_if_absent name t' ms';
+      same = with_first_alike name t t' ms ms' p h.2;
+    }))
 with_first_alike name t t' no_members (member o u ms) p h = absurd h
 with_first_alike name t t' (member o u ms) no_members p h = absurd h
 

@@ -1,7 +1,7 @@
 -- If the visits of a tree with names in order are written one after another, the writer adds the compact text of its
 -- normal form. The predicate `Writes` holds of the first visit and of those left, and `text_whole` says that the
 -- visits together have that text.
-use Rattle.std.proofs.Common.{◌≡◌, ℕ, false, List, [], ◌∷◌, ◌++◌, Result, Ok, Err, OnOk, length, sym, ap, subst}
+use Rattle.std.proofs.Common.{◌≡◌, ℕ, false, List, [], ◌∷◌, ◌++◌, Result, Ok, Err, OnOk, sym, ap, subst}
 use Rattle.std.proofs.Common.{◌∙◌, arith, append-nil, append_assoc, refl}
 use Rattle.miniserde_model.specs.Tree.{Tree}
 use Rattle.miniserde_model.specs.InRange.{InRange}
@@ -13,32 +13,50 @@ use Rattle.miniserde_value.specs.Writes.{Writes}
 use Rattle.miniserde_value.proofs.Texts.{text_whole, fronts_tree}
 use Rattle.miniserde_value.proofs.Written.{fronts_before, first_before, first_fronts}
 
+-- from `old` to `new`, the writer wrote the visit m, and no call failed
+record WroteVisit (old : WriterView) (m : TreeVisit) (new : WriterView) : Type 0 where
+  pub text : (rest : List TreeVisit) → new.text ++ visits_text new.first rest ≡ old.text ++ visits_text old.first (m ∷ rest)
+  pub is_visit : VisitsInRange (m ∷ [])
+  pub first : new.first ≡ first_flag_after old.first (m ∷ [])
+  pub was_running : old.refused ≡ false
+  pub unrefused : new.refused ≡ false
+
 -- what was written of a front is all that the lists differ by
-pub wrote : (old new : WriterView) (m : TreeVisit) (before after : List TreeVisit) → before ≡ m ∷ after
-    → ((rest : List TreeVisit) → new.text ++ visits_text new.first rest ≡ old.text ++ visits_text old.first
-    (m ∷ rest)) → VisitsInRange (m ∷ []) → new.first ≡ first_flag_after old.first (m ∷ []) → old.refused ≡ false
-    → new.refused ≡ false → Writes old before new after
-wrote old new m before after e text visits first stays whole = record {
-  text = text after ∙ ap (λ (x : List TreeVisit). old.text ++ visits_text old.first x) (sym e);
-  first = ap (λ b. first_flag_after b after) first ∙ first_before old.first m after ∙ ap (first_flag_after old.first) (sym e);
-  are_visits = λ h. subst VisitsInRange (sym e) (fronts_before m after visits h);
-  shorter = omega (arith, ap length e);
-  was_running = stays;
-  unrefused = whole;
+wrote : (old : WriterView) (m : TreeVisit) (new : WriterView) (after : List TreeVisit) → WroteVisit old m new
+    → Writes old (m ∷ after) new after
+wrote old m new after w = record {
+  text = w.text after;
+  first = ap (λ b. first_flag_after b after) w.first ∙ first_before old.first m after;
+  are_visits = λ h. fronts_before m after w.is_visit h;
+  shorter = omega arith;
+  was_running = w.was_running;
+  unrefused = w.unrefused;
 }
 
+-- the first of the visits `before` is that of a leaf, whose normal form is u, and in range; `after` are the others
+pub record LeafFirst (before : List TreeVisit) (u : Tree) (after : List TreeVisit) : Type 0 where
+  pub tree : Tree
+  pub is_first : before ≡ leaf tree ∷ after
+  pub is_norm : u ≡ norm tree
+  pub in_range : InRange u
+
 -- a leaf was written, as u
-pub on_leaf : {T E : Type 0} (r : Result T E) (old new : WriterView) (t u : Tree) (n : ℕ)
-    (before after : List TreeVisit) → before ≡ leaf t ∷ after → u ≡ norm t → InRange u
-    → OnOk r (new ≡ after_append old (compact u) n) → OnOk r (old.refused ≡ false)
+pub on_leaf : {T E : Type 0} {before : List TreeVisit} {u : Tree} {after : List TreeVisit} (r : Result T E) (old new : WriterView)
+    (n : ℕ) → LeafFirst before u after → OnOk r (new ≡ after_append old (compact u) n) → OnOk r (old.refused ≡ false)
     → OnOk r (Writes old before new after)
-on_leaf (Ok x) old new t u n before after e i is w stays =
+on_leaf {before = before} {u = u} {after = after} (Ok x) old new n l w stays =
     subst (λ (z : WriterView). Writes old before z after) (sym w)
-    (wrote old (after_append old (compact u) n) (leaf t) before after e
-    (λ rest. append_assoc old.text (compact u) (visits_text old.first rest)
-    ∙ ap (λ z. old.text ++ (compact z ++ visits_text old.first rest)) i) (subst InRange i is, tt) refl stays
-    stays)
-on_leaf (Err x) old new t u n before after e i is w was_running = tt
+    (subst (λ (z : List TreeVisit). Writes old z (after_append old (compact u) n) after) (sym l.is_first)
+    (wrote old (leaf l.tree) (after_append old (compact u) n) after
+    (record {
+      text = λ rest. append_assoc old.text (compact u) (visits_text old.first rest)
+          ∙ ap (λ z. old.text ++ (compact z ++ visits_text old.first rest)) l.is_norm;
+      is_visit = (subst InRange l.is_norm l.in_range, tt);
+      first = refl;
+      was_running = stays;
+      unrefused = stays;
+    })))
+on_leaf (Err x) old new n l w stays = tt
 
 -- ---- a whole tree
 

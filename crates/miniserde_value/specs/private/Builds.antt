@@ -1,11 +1,12 @@
 -- How a text goes on event by event, with the hole that the events fill.
--- m, h and s: the moment, the hole, and the rest of the text.
-use Rattle.std.specs.Prelude.{◌≡◌, ℕ, Bool, true, false, List, [], ◌∷◌, ◌++◌, None}
+use Rattle.std.specs.Prelude.{◌≡◌, ℕ, Bool, true, false, List, [], ◌∷◌, ◌++◌, Option, None}
+use Rattle.miniserde_model.specs.Tree.{Tree}
 use Rattle.miniserde_model.specs.Step.{Step}
 use Rattle.miniserde_model.specs.declared.kind.Kind.{Kind}
 use Rattle.miniserde_model.specs.declared.kind.Kind.TheVariants.{Seq, Map}
 use Rattle.miniserde_model.specs.private.Reading.{Moment, due, first, after}
 use Rattle.miniserde_text.specs.private.Runs.{Runs, Consumes}
+use Rattle.miniserde_text.specs.private.Moving.{first_or_after}
 use Rattle.miniserde_value.specs.Hole.{Hole, outside, in_list, in_members, after_close, outcome}
 
 -- the kinds of the open containers, innermost first
@@ -25,22 +26,42 @@ abbrev pub closed_unless : Bool → Hole → Hole
 closed_unless true h = h
 closed_unless false h = after_close h
 
--- From the moment m and the hole h, the events `done` lead to m' and h': whatever events follow,
--- `done` and these give from h what these alone give from h'. With `once`, a duplicate name gives
+-- a reader in the middle of a text
+pub record ReaderState : Type 0 where
+  pub moment : Moment
+  pub hole : Hole
+  -- the rest of the text
+  pub rest : List ℕ
+
+-- The reader in an open container, before a child or the closing bracket; `opened` says that the opening bracket was
+-- just taken. h is the hole and s the rest of the text.
+abbrev pub state_before : Bool → Hole → List ℕ → ReaderState
+state_before opened h s = record { moment = first_or_after opened; hole = h; rest = s }
+
+-- the reader before a value, with the hole h and the rest s of the text
+abbrev pub state_due : Hole → List ℕ → ReaderState
+state_due h s = record { moment = due; hole = h; rest = s }
+
+-- what the events to come make of the state's hole; with `once`, a duplicate name gives nothing
+abbrev pub outcome_at : Bool → ReaderState → List Step → Option Tree
+outcome_at once now es = outcome once (is_due now.moment) now.hole es
+
+-- The events `done` lead from the state `from` to `to`: whatever events follow, `done` and these give
+-- from the hole of `from` what these alone give from that of `to`. With `once`, a duplicate name gives
 -- nothing.
-abbrev pub HoleAdvancesBy : Bool → Moment → Hole → List Step → Moment → Hole → Type 0
-HoleAdvancesBy once m h done m' h' = (es : List Step) → outcome once (is_due m) h (done ++ es) ≡ outcome once (is_due m') h' es
+abbrev pub HoleAdvancesBy : Bool → ReaderState → List Step → ReaderState → Type 0
+HoleAdvancesBy once from done to = (es : List Step) → outcome_at once from (done ++ es) ≡ outcome_at once to es
 
--- The text from s to s' spells the events `done`, and any events that a prefix of s spells until no
--- container is open begin with them (`passed`). They lead from m and the hole h to m' and h', if
--- duplicate names are allowed (`makes`), and by `once` (`repeats_none`).
-pub record Builds (once : Bool) (m : Moment) (h : Hole) (s : List ℕ) (m' : Moment) (h' : Hole) (s' : List ℕ) : Type 0 where
+-- The text between the states `from` and `to` spells the events `done`, and any events that a prefix
+-- of the text spells until no container is open begin with them (`passed`). They lead from the one
+-- state to the other, if duplicate names are allowed (`makes`), and by `once` (`repeats_none`).
+pub record Builds (once : Bool) (from to : ReaderState) : Type 0 where
   pub done : List Step
-  pub passed : Consumes m (kinds h) s done m' (kinds h') s'
-  pub makes : HoleAdvancesBy false m h done m' h'
-  pub repeats_none : HoleAdvancesBy once m h done m' h'
+  pub passed : Consumes from.moment (kinds from.hole) from.rest done to.moment (kinds to.hole) to.rest
+  pub makes : HoleAdvancesBy false from done to
+  pub repeats_none : HoleAdvancesBy once from done to
 
--- from m and the hole h on, no events that a prefix of the text s spells give a tree; with `once`,
--- a duplicate name gives nothing
-abbrev pub NeverGives : Bool → Moment → Hole → List ℕ → Type 0
-NeverGives once m h s = (es : List Step) (r : List ℕ) → Runs m es (kinds h) s r → outcome once (is_due m) h es ≡ None
+-- from the state on, no events that a prefix of the text spells give a tree; with `once`, a
+-- duplicate name gives nothing
+abbrev pub NeverGives : Bool → ReaderState → Type 0
+NeverGives once now = (es : List Step) (r : List ℕ) → Runs now.moment es (kinds now.hole) now.rest r → outcome_at once now es ≡ None

@@ -2,10 +2,8 @@
 ghost use Rattle.std.specs.Prelude.{◌≡◌, ◌<◌, ◌≤◌, ◌&&◌, true, false, Bool, List, ℕ, None, Some, Err, IfOk, OnOk, length};
 ghost use Rattle.std.specs.Prelude.{option_map, string_bytes};
 ghost use Rattle.miniserde_model.specs.Lexing.{Follows};
-ghost use Rattle.miniserde_model.specs.private.Reading.{due};
 ghost use Rattle.miniserde_model.specs.declared.error.Error.{Error};
 ghost use Rattle.miniserde_text.specs.Lexer.{event_of_token};
-ghost use Rattle.miniserde_text.specs.private.Moving.{first_or_after};
 ghost use Rattle.miniserde_read.specs.Rest.{GivesAt, GivesNoneAt};
 ghost use Rattle.miniserde_read.specs.Events.{EventInRange};
 ghost use Rattle.miniserde_value.specs.Builders.{hole_in};
@@ -13,7 +11,7 @@ ghost use Rattle.miniserde_value.specs.Hole.{has_member};
 ghost use Rattle.miniserde_value.specs.Containers.{innermost, kind_around, pending, with_next_name};
 ghost use Rattle.miniserde_value.specs.Retained.{retained_if};
 ghost use Rattle.miniserde_value.specs.Values.{content_of};
-ghost use Rattle.miniserde_value.specs.private.Builds.{Builds, NeverGives, closed_unless};
+ghost use Rattle.miniserde_value.specs.private.Builds.{Builds, NeverGives, closed_unless, state_before, state_due};
 
 use super::builder::Builder;
 use super::value::Value;
@@ -63,10 +61,10 @@ fn take_children<'a>(
     ensures going { IfOk result (λ _. source.new.refused ≡ None) }
     ensures unnamed { IfOk result (λ _. pending (hole_in builder.new) ≡ None) }
     ensures less { IfOk result (λ _. length source.new.rest < length source.old.rest) }
-    ensures builds { IfOk result (λ opened. Builds once (first_or_after first) (hole_in builder.old) source.old.rest
-        (first_or_after opened) (hole_in builder.new) source.new.rest) }
+    ensures builds { IfOk result (λ opened. Builds once (state_before first (hole_in builder.old) source.old.rest)
+        (state_before opened (hole_in builder.new) source.new.rest)) }
     ensures invalid { result ≡ Err Error.Invalid
-        → NeverGives once (first_or_after first) (hole_in builder.old) source.old.rest }
+        → NeverGives once (state_before first (hole_in builder.old) source.old.rest) }
 {
     // One loop for each kind, so that no child asks again in which container it is.
     let opened = match kind {
@@ -95,10 +93,10 @@ fn take_leaves<'a>(
     ensures going { IfOk result (λ _. source.new.refused ≡ None) }
     ensures unnamed { IfOk result (λ _. pending (hole_in builder.new) ≡ None) }
     ensures less { IfOk result (λ _. length source.new.rest < length source.old.rest) }
-    ensures builds { IfOk result (λ opened. Builds once (first_or_after first) (hole_in builder.old) source.old.rest
-        (first_or_after opened) (closed_unless opened (hole_in builder.new)) source.new.rest) }
+    ensures builds { IfOk result (λ opened. Builds once (state_before first (hole_in builder.old) source.old.rest)
+        (state_before opened (closed_unless opened (hole_in builder.new)) source.new.rest)) }
     ensures invalid { result ≡ Err Error.Invalid
-        → NeverGives once (first_or_after first) (hole_in builder.old) source.old.rest }
+        → NeverGives once (state_before first (hole_in builder.old) source.old.rest) }
 {
     let mut first = first;
     while let After::Next = source.after(kind, first)? {
@@ -128,11 +126,11 @@ fn take_name<'a>(
     ensures kind { IfOk result (λ name. kind_around (option_map string_bytes name) ≡ kind) }
     ensures builds { (first : Bool) (s : List ℕ) → innermost (hole_in builder.now) ≡ Some kind
         → Follows kind first false s source.old.rest
-        → IfOk result (λ name. Builds once (first_or_after first) (hole_in builder.now) s due
-        (with_next_name (option_map string_bytes name) (hole_in builder.now)) source.new.rest) }
+        → IfOk result (λ name. Builds once (state_before first (hole_in builder.now) s)
+        (state_due (with_next_name (option_map string_bytes name) (hole_in builder.now)) source.new.rest)) }
     ensures invalid { (first : Bool) (s : List ℕ) → innermost (hole_in builder.now) ≡ Some kind
         → Follows kind first false s source.old.rest
-        → result ≡ Err Error.Invalid → NeverGives once (first_or_after first) (hole_in builder.now) s }
+        → result ≡ Err Error.Invalid → NeverGives once (state_before first (hole_in builder.now) s) }
 {
     if let Kind::Seq = kind {
         return Ok(None);

@@ -4,12 +4,13 @@
 use Rattle.std.proofs.Common.{◌≡◌, None, Some, is_some, option_map, sym, ap, ◌∙◌}
 use Rattle.std.proofs.lemmas.Result.{err_from_is_err_and}
 use Rattle.miniserde_text.specs.Lexer.{event_of_token}
-use Rattle.miniserde_text.specs.private.Moving.{opened_kind, first_or_after}
+use Rattle.miniserde_text.specs.private.Moving.{opened_kind}
 use Rattle.miniserde_value.specs.Builders.{hole_in}
 use Rattle.miniserde_value.specs.Hole.{after_begin}
 use Rattle.miniserde_value.specs.Retained.{retained_tree}
 use Rattle.miniserde_value.specs.Values.{content_of}
-use Rattle.miniserde_value.proofs.Builds.{begins, builds_init, Builds-append, pending_begun, never_behind, read_ok, read_none}
+use Rattle.miniserde_value.specs.private.Builds.{state_before}
+use Rattle.miniserde_value.proofs.Builds.{begins, BuiltSince, builds_init, Builds-append, pending_begun, read_ok, read_none}
 use Rattle.miniserde_value.proofs.json.reader.read_value.Goals as goal
 
 pub loop-kind-init : goal.loop-kind-init
@@ -37,41 +38,50 @@ loop-kind-preserved c =
     record {
       going = c.in_ok-first-2.ensures.going;
       unnamed = c.in_ok-first-2.ensures.unnamed;
-      builds = Builds-append c.args.once (first_or_after (is_some (opened_kind e))) (hole_in c.begin.new.self)
-          c.args.source.now.rest (first_or_after c.loop-kind.first) (hole_in c.loop-kind.builder)
-          c.loop-kind.source.rest (first_or_after c.in_ok-first-2.first) (hole_in c.take_children.new.builder)
-          c.take_children.new.source.rest c.loop-kind.invariant.builds c.in_ok-first-2.ensures.builds;
+      builds = Builds-append c.args.once c.loop-kind.invariant.builds c.in_ok-first-2.ensures.builds;
     }
 
 pub returns-in_err-first-2-clause-invalid : goal.returns-in_err-first-2-clause-invalid
 returns-in_err-first-2-clause-invalid c = λ x.
     let w = err_from_is_err_and c.from_residual-in_err-first-2.result c.from_residual-in_err-first-2.ensures.1 in
     let e = event_of_token c.args.token c.args.source.now.scratch in
-    read_none c.args.once e (hole_in c.begin.new.self) c.args.source.now.rest
-    (ap (after_begin e) (sym c.new-builder.ensures) ∙ ap (λ z. after_begin z (hole_in c.new-builder.result))
-    (sym c.step.ensures) ∙ c.in_ok-first.ensures.ok)
-    (never_behind c.args.once (first_or_after (is_some (opened_kind e))) (hole_in c.begin.new.self)
-    c.args.source.now.rest (first_or_after c.loop-kind.first) (hole_in c.loop-kind.builder)
-    c.loop-kind.source.rest c.loop-kind.invariant.builds
-    (c.in_err-first-2.ensures.invalid (cc (w.1, w.2, x))))
+    let since : BuiltSince c.args.once e c.args.source.now.rest
+    (state_before c.loop-kind.first (hole_in c.loop-kind.builder) c.loop-kind.source.rest) =
+    record {
+      hole = hole_in c.begin.new.self;
+      is_hole = ap (after_begin e) (sym c.new-builder.ensures) ∙ ap (λ z. after_begin z (hole_in c.new-builder.result))
+          (sym c.step.ensures) ∙ c.in_ok-first.ensures.ok;
+      builds = c.loop-kind.invariant.builds;
+    } in
+    read_none c.args.once since (c.in_err-first-2.ensures.invalid (cc (w.1, w.2, x)))
 
 pub unreachable-requires : goal.unreachable-requires
 unreachable-requires c =
     let e = event_of_token c.args.token c.args.source.now.scratch in
-    let read = read_ok c.args.once c.args.token c.args.source.now.scratch c.args.source.now.rest
-    c.loop-kind.source.rest (hole_in c.begin.new.self) c.loop-kind.first (hole_in c.loop-kind.builder)
-    (ap (after_begin e) (sym c.new-builder.ensures) ∙ ap (λ z. after_begin z (hole_in c.new-builder.result))
-    (sym c.step.ensures) ∙ c.in_ok-first.ensures.ok) (sym c.innermost.ensures ∙ c.in_default.is)
-    c.loop-kind.invariant.builds in
+    let since : BuiltSince c.args.once e c.args.source.now.rest
+    (state_before c.loop-kind.first (hole_in c.loop-kind.builder) c.loop-kind.source.rest) =
+    record {
+      hole = hole_in c.begin.new.self;
+      is_hole = ap (after_begin e) (sym c.new-builder.ensures) ∙ ap (λ z. after_begin z (hole_in c.new-builder.result))
+          (sym c.step.ensures) ∙ c.in_ok-first.ensures.ok;
+      builds = c.loop-kind.invariant.builds;
+    } in
+    let read = read_ok c.args.once c.args.token c.args.source.now.scratch c.loop-kind.first (hole_in c.loop-kind.builder)
+    (sym c.innermost.ensures ∙ c.in_default.is) since in
     let none : None ≡ Some (retained_tree read.0) = ap (option_map content_of) (sym c.in-None.is) ∙ c.into_value.ensures ∙ read.2 in
     cc
 
 pub returns-clause-ok : goal.returns-clause-ok
 returns-clause-ok c =
     let e = event_of_token c.args.token c.args.source.now.scratch in
-    let read = read_ok c.args.once c.args.token c.args.source.now.scratch c.args.source.now.rest
-    c.loop-kind.source.rest (hole_in c.begin.new.self) c.loop-kind.first (hole_in c.loop-kind.builder)
-    (ap (after_begin e) (sym c.new-builder.ensures) ∙ ap (λ z. after_begin z (hole_in c.new-builder.result))
-    (sym c.step.ensures) ∙ c.in_ok-first.ensures.ok) (sym c.innermost.ensures ∙ c.in_default.is)
-    c.loop-kind.invariant.builds in
+    let since : BuiltSince c.args.once e c.args.source.now.rest
+    (state_before c.loop-kind.first (hole_in c.loop-kind.builder) c.loop-kind.source.rest) =
+    record {
+      hole = hole_in c.begin.new.self;
+      is_hole = ap (after_begin e) (sym c.new-builder.ensures) ∙ ap (λ z. after_begin z (hole_in c.new-builder.result))
+          (sym c.step.ensures) ∙ c.in_ok-first.ensures.ok;
+      builds = c.loop-kind.invariant.builds;
+    } in
+    let read = read_ok c.args.once c.args.token c.args.source.now.scratch c.loop-kind.first (hole_in c.loop-kind.builder)
+    (sym c.innermost.ensures ∙ c.in_default.is) since in
     (read.0, read.1, sym read.3 ∙ sym c.into_value.ensures ∙ ap (option_map content_of) c.in-Some-into_value.is)

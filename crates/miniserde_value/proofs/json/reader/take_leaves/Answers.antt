@@ -1,18 +1,16 @@
 -- Each turn builds exactly the events that it passes, up to the first token of a child (`child_builds`), and the end
 -- builds the closing one (`close_builds`). What fails after them leaves no value (`never_behind`).
-use Rattle.std.proofs.Common.{◌<◌, length, true, false, sym, subst, ◌∙◌, arith, option_map, string_bytes, refl}
+use Rattle.std.proofs.Common.{◌<◌, length, true, false, sym, subst, ◌∙◌, arith}
 use Rattle.std.proofs.lemmas.Result.{err_from_is_err_and}
 use Rattle.miniserde_model.specs.Lexing.{Follows}
 use Rattle.miniserde_text.specs.Lexer.{is_close}
-use Rattle.miniserde_text.specs.private.Moving.{first_or_after}
 use Rattle.miniserde_text.proofs.Consumes.{after_ends}
 use Rattle.miniserde_text.proofs.Starting.{start_less}
-use Rattle.miniserde_read.specs.Events.{event_of, EventInRange}
+use Rattle.miniserde_read.specs.Events.{EventInRange}
 use Rattle.miniserde_read.proofs.Length.{follows_least}
 use Rattle.miniserde_read.proofs.Tokens.{start_event}
 use Rattle.miniserde_value.specs.Builders.{hole_in}
-use Rattle.miniserde_value.specs.Containers.{with_next_name}
-use Rattle.miniserde_value.specs.private.Builds.{kinds}
+use Rattle.miniserde_value.specs.private.Builds.{kinds, state_before}
 use Rattle.miniserde_value.proofs.Builds.{innermost_of_kinds, child_builds, close_builds, Builds-append, leaf_stays}
 use Rattle.miniserde_value.proofs.Builds.{pending_begun, stuck, never_behind}
 use Rattle.miniserde_value.proofs.json.reader.take_leaves.Goals as goal
@@ -21,10 +19,9 @@ pub returns-in_err-after-clause-invalid : goal.returns-in_err-after-clause-inval
 returns-in_err-after-clause-invalid c = λ e.
     let w = err_from_is_err_and c.from_residual.result c.from_residual.ensures.1 in
     let h = hole_in c.loop-source.builder in
-    let m = first_or_after c.loop-source.first in
-    never_behind c.args.once (first_or_after c.args.first) (hole_in c.args.builder.now) c.args.source.now.rest m h
-    c.loop-source.source.rest c.loop-source.invariant.builds
-    (stuck c.args.once m h _ (after_ends (kinds h) _ c.args.kind c.loop-source.first
+    never_behind c.args.once c.loop-source.invariant.builds
+    (stuck c.args.once (state_before c.loop-source.first h c.loop-source.source.rest)
+    (after_ends (kinds h) _ c.args.kind c.loop-source.first
     (innermost_of_kinds h ∙ c.loop-source.invariant.inside)
     (c.in_err-after.ensures.invalid (cc (w.1, w.2, e)) c.loop-source.invariant.going)))
 
@@ -38,10 +35,8 @@ returns-then-branch-clause-builds c =
     let p : Follows c.args.kind c.loop-source.first false s c.after.new.self.rest =
     subst (λ z. Follows c.args.kind c.loop-source.first (is_close z) s c.after.new.self.rest) c.in-Next.is
     c.in_ok-after.ensures.ok in
-    child_builds c.args.once _ _ _ c.loop-source.first (hole_in c.loop-source.builder) s
-    (with_next_name (option_map string_bytes c.in_ok-name.name) (hole_in c.loop-source.builder))
-    c.take_name.new.source.rest _ (event_of c.step.result) true (hole_in c.begin_child.new.self) c.token.new.self.rest
-    c.loop-source.invariant.builds (c.in_ok-name.ensures.builds c.loop-source.first s c.loop-source.invariant.inside p)
+    child_builds c.args.once c.loop-source.invariant.builds
+    (c.in_ok-name.ensures.builds c.loop-source.first s c.loop-source.invariant.inside p)
     c.in_ok-token.ensures.ok c.step.ensures (sym c.if-branch.true ∙ c.in_ok-begin_child.ensures.opens)
     c.in_ok-begin_child.ensures.ok
 
@@ -76,10 +71,7 @@ loop-source-preserved c =
         follows_least c.args.kind c.loop-source.first false _ _ p,
         start_less _ _ _ c.in_ok-token.ensures.ok,
       );
-      builds = child_builds c.args.once _ _ _ c.loop-source.first (hole_in c.loop-source.builder) s
-          (with_next_name (option_map string_bytes c.in_ok-name.name) (hole_in c.loop-source.builder))
-          c.take_name.new.source.rest _ (event_of c.step.result) false (hole_in c.begin_child.new.self)
-          c.token.new.self.rest c.loop-source.invariant.builds
+      builds = child_builds c.args.once c.loop-source.invariant.builds
           (c.in_ok-name.ensures.builds c.loop-source.first s c.loop-source.invariant.inside p)
           c.in_ok-token.ensures.ok c.step.ensures leaf c.in_ok-begin_child.ensures.ok;
     }
@@ -90,7 +82,5 @@ returns-clause-builds c =
     let p : Follows c.args.kind c.loop-source.first true s c.after.new.self.rest =
     subst (λ z. Follows c.args.kind c.loop-source.first (is_close z) s c.after.new.self.rest) c.in_default.is
     c.in_ok-after.ensures.ok in
-    Builds-append c.args.once _ _ _ (first_or_after c.loop-source.first) (hole_in c.loop-source.builder) s _ _ _
-    c.loop-source.invariant.builds
-    (close_builds c.args.once (hole_in c.loop-source.builder) _ _ _ c.args.kind c.loop-source.first
-    c.loop-source.invariant.inside p refl)
+    Builds-append c.args.once c.loop-source.invariant.builds
+    (close_builds c.args.once (hole_in c.loop-source.builder) c.args.kind c.loop-source.first c.loop-source.invariant.inside p)

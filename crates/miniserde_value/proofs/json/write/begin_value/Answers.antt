@@ -14,15 +14,17 @@ use Rattle.miniserde_value.proofs.Writes.{on_leaf}
 use Rattle.miniserde_value.proofs.json.write.begin_value.Goals as goal
 
 pub returns-in-Null-clause-ok : goal.returns-in-Null-clause-ok
-returns-in-Null-clause-ok c = on_leaf c.fragment.result c.args.w.now c.fragment.new.self _ _ _ _ _
-    (begin_null _ _ c.in-Null.is) refl tt c.fragment.ensures.ok c.fragment.ensures.was_running
+returns-in-Null-clause-ok c = on_leaf c.fragment.result c.args.w.now c.fragment.new.self _
+    (record { tree = _; is_first = begin_null _ _ c.in-Null.is; is_norm = refl; in_range = tt })
+    c.fragment.ensures.ok c.fragment.ensures.was_running
 
 pub returns-in-Null-clause-ordered : goal.returns-in-Null-clause-ordered
 returns-in-Null-clause-ordered c = on_ok_weaker c.fragment.result (λ _ o. (ordered_null _ c.in-Null.is, o)) c.fragment.ensures.was_running
 
 pub returns-in-Bool-clause-ok : goal.returns-in-Bool-clause-ok
-returns-in-Bool-clause-ok c = on_leaf c.fragment-in-Bool.result c.args.w.now c.fragment-in-Bool.new.self _ _ _ _ _
-    (begin_bool _ _ _ c.in-Bool.is) refl tt c.fragment-in-Bool.ensures.ok c.fragment-in-Bool.ensures.was_running
+returns-in-Bool-clause-ok c = on_leaf c.fragment-in-Bool.result c.args.w.now c.fragment-in-Bool.new.self _
+    (record { tree = _; is_first = begin_bool _ _ _ c.in-Bool.is; is_norm = refl; in_range = tt })
+    c.fragment-in-Bool.ensures.ok c.fragment-in-Bool.ensures.was_running
 
 pub returns-in-Bool-clause-ordered : goal.returns-in-Bool-clause-ordered
 returns-in-Bool-clause-ordered c =
@@ -31,8 +33,12 @@ returns-in-Bool-clause-ordered c =
 
 pub returns-in-Number-clause-ok : goal.returns-in-Number-clause-ok
 returns-in-Number-clause-ok c = on_leaf c.fragment-in-Number-2.result c.args.w.now c.fragment-in-Number-2.new.self _
-    _ _ _ _ (begin_number _ _ _ c.in-Number.is) c.fragment-in-Number.ensures.leaf
-    (subst InRange (sym c.fragment-in-Number.ensures.leaf) c.fragment-in-Number.ensures.in_range)
+    (record {
+      tree = _;
+      is_first = begin_number _ _ _ c.in-Number.is;
+      is_norm = c.fragment-in-Number.ensures.leaf;
+      in_range = subst InRange (sym c.fragment-in-Number.ensures.leaf) c.fragment-in-Number.ensures.in_range;
+    })
     c.fragment-in-Number-2.ensures.ok c.fragment-in-Number-2.ensures.was_running
 
 pub returns-in-Number-clause-ordered : goal.returns-in-Number-clause-ordered
@@ -41,9 +47,14 @@ returns-in-Number-clause-ordered c =
     c.fragment-in-Number-2.ensures.was_running
 
 pub returns-in-String-clause-ok : goal.returns-in-String-clause-ok
-returns-in-String-clause-ok c = on_leaf c.fragment-in-String.result c.args.w.now c.fragment-in-String.new.self _ _ _
-    _ _ (begin_string _ _ _ c.in-String.is ∙ ap (λ (t : List ℕ). leaf (str t) ∷ frames_left c.args.frames.now)
-    (sym c.as_str.ensures.value)) refl c.as_str.utf8 c.fragment-in-String.ensures.ok
+returns-in-String-clause-ok c = on_leaf c.fragment-in-String.result c.args.w.now c.fragment-in-String.new.self _
+    (record {
+      tree = _;
+      is_first = begin_string _ _ _ c.in-String.is
+          ∙ ap (λ (t : List ℕ). leaf (str t) ∷ frames_left c.args.frames.now) (sym c.as_str.ensures.value);
+      is_norm = refl;
+      in_range = c.as_str.utf8;
+    }) c.fragment-in-String.ensures.ok
     c.fragment-in-String.ensures.was_running
 
 pub returns-in-String-clause-ordered : goal.returns-in-String-clause-ordered

@@ -18,7 +18,7 @@ returns-in-Some-clause-ok c =
     let some = c.in-Some.ensures.variant.0 refl in
     let top = last_got c.args.self.now.containers.items c.deref.result.now _ container.Object c.deref.ensures.value
     c.in-Some-Object.ensures.value c.in-Some-Object.field-0-is in
-    object_changed (with_name c.args.name.now) _ c.args.self.now.objects.items _ _ _
-    c.args.self.now.containers.items _ (omega arith) c.in-Some.ensures.value top
+    object_changed (with_name c.args.name.now) _ c.args.self.now.objects.items _ c.args.self.now.containers.items
+    (record { below = _; there = c.in-Some.ensures.value; is_last = omega arith; on_top = top })
     (λ h. ap₂ (λ (ms : Members) (k : Option (List ℕ)). in_members ms k h) c.name.ensures.members
     (c.name.ensures.name ∙ ap (λ (t : List ℕ). Some t) c.in_ok-name.ensures.ok))

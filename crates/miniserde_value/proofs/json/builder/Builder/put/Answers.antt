@@ -20,5 +20,6 @@ returns-in-Some-Object c =
     let top = last_got c.args.self.now.containers.items c.deref.result.now _ container.Object c.deref.ensures.value
     c.in-Some-Object.ensures.value c.in-Some-Object.field-0-is in
     on_ok_weaker c.put.result
-    (object_changed (put (content_of c.args.value)) _ c.args.self.now.objects.items _ _ _
-    c.args.self.now.containers.items _ (omega arith) c.in-Some.ensures.value top) c.put.ensures
+    (object_changed (put (content_of c.args.value)) _ c.args.self.now.objects.items _
+    c.args.self.now.containers.items
+    (record { below = _; there = c.in-Some.ensures.value; is_last = omega arith; on_top = top })) c.put.ensures

@@ -37,11 +37,12 @@ returns-in-Some-last_mut c =
     let some = c.in-Some-last_mut.ensures.variant.0 refl in
     let top = object_on_top _ _ (reverse c.args.self.now.containers.items) inside in
     let last = c.in-Some-last_mut.ensures.value in
-    let unnamed = sym (pending_last _ c.args.self.now.objects.items _ _ c.args.self.now.containers.items _ (omega arith)
-    last top.1) ∙ c.requires.unnamed in
+    let unnamed = sym (pending_last _ c.args.self.now.objects.items c.args.self.now.containers.items
+    (record { below = _; there = last; is_last = omega arith; on_top = top.1 })) ∙ c.requires.unnamed in
     on_ok_weaker c.insert.result
     (λ e. object_changed (λ h. put (content_of c.args.value) (with_name (string_bytes c.in-Some.name) h)) _
-    c.args.self.now.objects.items _ _ _ c.args.self.now.containers.items _ (omega arith) last top.1
+    c.args.self.now.objects.items _ c.args.self.now.containers.items
+    (record { below = _; there = last; is_last = omega arith; on_top = top.1 })
     (λ h. ap₂ (λ (ms : Members) (k : Option (List ℕ)). in_members ms k h) e unnamed)
     ∙ ap (λ z. put (content_of c.args.value) (with_next_name (option_map string_bytes z) (hole_in c.args.self.now)))
     (sym c.in-Some.is)) c.insert.ensures.ok
@@ -49,7 +50,7 @@ returns-in-Some-last_mut c =
 pub returns-in_ok-push-in-None : goal.returns-in_ok-push-in-None
 returns-in_ok-push-in-None c =
     let inside = c.requires.inside ∙ ap (λ z. Some (kind_around (option_map string_bytes z))) c.in-None.is in
-    item_put c.args.self.now.values.items c.push.new.self.items c.args.value (reverse c.args.self.now.objects.items)
+    item_put c.args.self.now.values.items c.args.value (reverse c.args.self.now.objects.items)
     (reverse c.args.self.now.containers.items) c.in_ok-push-in-None.ensures.items c.args.self.now.fits inside
     ∙ ap (λ z. put (content_of c.args.value) (with_next_name (option_map string_bytes z) (hole_in c.args.self.now)))
     (sym c.in-None.is)

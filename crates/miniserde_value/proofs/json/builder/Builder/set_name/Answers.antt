@@ -26,7 +26,7 @@ returns-in-Some-last_mut c =
     let inside = c.requires ∙ ap (λ z. Some (kind_around (option_map string_bytes z))) c.in-Some.is in
     let some = c.in-Some-last_mut.ensures.variant.0 refl in
     let top = object_on_top _ _ (reverse c.args.self.now.containers.items) inside in
-    object_changed (with_name (string_bytes c.in-Some.name)) _ c.args.self.now.objects.items _ _ _
-    c.args.self.now.containers.items _ (omega arith) c.in-Some-last_mut.ensures.value top.1
+    object_changed (with_name (string_bytes c.in-Some.name)) _ c.args.self.now.objects.items _ c.args.self.now.containers.items
+    (record { below = _; there = c.in-Some-last_mut.ensures.value; is_last = omega arith; on_top = top.1 })
     (λ h. ap₂ (λ (ms : Members) (k : Option (List ℕ)). in_members ms k h) c.name.ensures.members c.name.ensures.name)
     ∙ ap (λ z. with_next_name (option_map string_bytes z) (hole_in c.args.self.now)) (sym c.in-Some.is)

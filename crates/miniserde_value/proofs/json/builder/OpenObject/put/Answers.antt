@@ -7,5 +7,5 @@ use Rattle.miniserde_value.proofs.json.builder.OpenObject.put.Goals as goal
 pub returns-in-Some : goal.returns-in-Some
 returns-in-Some c =
     on_ok_weaker c.insert.result
-    (member_put c.args.self.now (record { members = c.insert.new.self; name = c.take.new.self }) c.in-Some.name
+    (member_put c.args.self.now (record { members = c.insert.new.self; name = c.take.new.self })
     c.args.value (sym c.take.ensures.value ∙ c.in-Some.is) c.take.ensures.after) c.insert.ensures.ok
