@@ -213,10 +213,10 @@ def ranged_of(part):
 def ranged_text(it):
     """The impl that says which values of an enum are valid."""
     name, cases = typed(it), typed(it, "Cases")
-    real = f"λ v. {of('WrittenCases', 'real', cases)} ({of('DataEnum', 'values', name)} v)"
+    valid = f"λ v. {of('WrittenCases', 'valid', cases)} ({of('DataEnum', 'values', name)} v)"
     return f"""
 {impl_of(it, WRITTEN)} Ranged for {name} {{
-{wrapped("real", real)}
+{wrapped("valid", valid)}
 
     fn ranged(&self) {{
         match self {{

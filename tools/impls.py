@@ -337,7 +337,7 @@ def writing_text(it):
     """The impls that write a struct, and say which of its values are valid."""
     name, fields = typed(it), typed(it, "Fields")
     tree = f"record_tree {of('Record', 'names', name)} {of('WrittenFields', 'trees', fields)} {of('Record', 'values', name)}"
-    real = f"λ v. {of('WrittenFields', 'real', fields)} ({of('Record', 'values', name)} v)"
+    valid = f"λ v. {of('WrittenFields', 'valid', fields)} ({of('Record', 'values', name)} v)"
     return f"""
 {impl_of(it, WRITTEN)} Serialize for {name} {{
 {wrapped("tree", tree)}
@@ -348,7 +348,7 @@ def writing_text(it):
 }}
 
 {impl_of(it, WRITTEN)} Ranged for {name} {{
-{wrapped("real", real)}
+{wrapped("valid", valid)}
 
     fn ranged(&self) {{
 {chr(10).join(f"        self.{part.name}.ranged();" for part in it.parts)}

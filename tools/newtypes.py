@@ -144,7 +144,7 @@ impl Serialize for {name} {{
 }}
 
 impl Ranged for {name} {{
-{wrapped("real", f"λ v. {value}.parsed ({value}.text ({value}.content v)) ≡ Some ({value}.content v)")}
+{wrapped("valid", f"λ v. {value}.parsed ({value}.text ({value}.content v)) ≡ Some ({value}.content v)")}
 
     fn ranged(&self) {{
         self.is_read_back()
@@ -229,10 +229,10 @@ def ranged_text(it):
     """The impl that says which values of a newtype are valid."""
     field = "value" if it.check else "0"
     fact = f" × ({fact_of(it, 'v.value')})" if it.check else ""
-    real = f"{of_inner(it, 'Ranged', 'real')} v.{field}{fact}"
+    valid = f"{of_inner(it, 'Ranged', 'valid')} v.{field}{fact}"
     return f"""
 {impl_of(it, "Ranged")} Ranged for {typed(it)} {{
-{wrapped("real", f"λ v. {real}")}
+{wrapped("valid", f"λ v. {valid}")}
 
     fn ranged(&self) {{
         self.{field}.ranged()

@@ -63,7 +63,7 @@ def ranged_text(name):
     """The impl that says that each value of an enum is valid."""
     return f"""
 impl Ranged for {name} {{
-    ghost real = {{ λ _. ⊤ }};
+    ghost valid = {{ λ _. ⊤ }};
 
     fn ranged(&self) {{}}
 }}

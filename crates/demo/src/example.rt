@@ -72,7 +72,7 @@ impl Serialize for Nested {
 }
 
 impl Ranged for Nested {
-    ghost real = { λ v. ⟦<NestedFields as WrittenFields>⟧.real (⟦<Nested as Record>⟧.values v) };
+    ghost valid = { λ v. ⟦<NestedFields as WrittenFields>⟧.valid (⟦<Nested as Record>⟧.values v) };
 
     fn ranged(&self) {
         self.y.ranged();
@@ -223,7 +223,7 @@ impl Serialize for Example {
 }
 
 impl Ranged for Example {
-    ghost real = { λ v. ⟦<ExampleFields as WrittenFields>⟧.real (⟦<Example as Record>⟧.values v) };
+    ghost valid = { λ v. ⟦<ExampleFields as WrittenFields>⟧.valid (⟦<Example as Record>⟧.values v) };
 
     fn ranged(&self) {
         self.x.ranged();

@@ -73,8 +73,7 @@ impl Serialize for StrictDemo {
 }
 
 impl Ranged for StrictDemo {
-    ghost real = { λ v. ⟦<StrictDemoFields as WrittenFields>⟧.real (⟦<StrictDemo as Record>⟧.values
-        v) };
+    ghost valid = { λ v. ⟦<StrictDemoFields as WrittenFields>⟧.valid (⟦<StrictDemo as Record>⟧.values v) };
 
     fn ranged(&self) {
         self.code.ranged();

@@ -68,7 +68,7 @@ impl Serialize for Demo {
 }
 
 impl Ranged for Demo {
-    ghost real = { λ v. ⟦<DemoFields as WrittenFields>⟧.real (⟦<Demo as Record>⟧.values v) };
+    ghost valid = { λ v. ⟦<DemoFields as WrittenFields>⟧.valid (⟦<Demo as Record>⟧.values v) };
 
     fn ranged(&self) {
         self.code.ranged();

@@ -60,7 +60,7 @@ impl Serialize for Tag {
 }
 
 impl Ranged for Tag {
-    ghost real = { λ _. ⊤ };
+    ghost valid = { λ _. ⊤ };
 
     fn ranged(&self) {}
 }

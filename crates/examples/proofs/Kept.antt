@@ -6,7 +6,7 @@ use Rattle.std.specs.Prelude.{◌↔◌, bytes_eq, IsSome, MatchOption}
 use Rattle.miniserde.specs.Tree.{Tree, Members, no_members, member}
 use Rattle.miniserde.specs.Normal.{or_else, last_of}
 use Rattle.miniserde.specs.Objects.{Name}
-use Rattle.miniserde.specs.Fields.{AllNamed, LastMemberReads}
+use Rattle.miniserde.specs.Fields.{AllOfName, LastMemberReads}
 
 -- a tree of a needed field means a second value exactly if that one has the first one's content
 pub same_field : {A C : Type 0} (R : Tree → A → Type 0) (of : Tree → Option C) (content : A → C)
@@ -24,7 +24,7 @@ same_field {A} R of content agrees n ms v w r =
     (λ h. s.0 h.1, λ q. (r.0, s.1 q))
 
 -- each member of a name is accepted where there is none
-pub none_named : {C : Type 0} (of : Tree → Option C) (n : Name) (ms : Members) → last_of n ms ≡ None → AllNamed of n ms
+pub none_named : {C : Type 0} (of : Tree → Option C) (n : Name) (ms : Members) → last_of n ms ≡ None → AllOfName of n ms
 none_named of n no_members e = tt
 none_named of n (member k t ms) e =
     let go : (o : Option Tree) (b : Bool) → or_else o (cond b (Some t) None) ≡ None → (o ≡ None) × (b ≡ false) =
@@ -47,7 +47,7 @@ says_missing missing Is of n ms e = (
 
 -- each member of a name is accepted by a second word that accepts what the first one does
 all_among : {C D : Type 0} (of : Tree → Option C) (to : Tree → Option D)
-    → ((t : Tree) → IsSome (of t) → IsSome (to t)) → (n : Name) (ms : Members) → AllNamed of n ms → AllNamed to n ms
+    → ((t : Tree) → IsSome (of t) → IsSome (to t)) → (n : Name) (ms : Members) → AllOfName of n ms → AllOfName to n ms
 all_among of to more n no_members h = tt
 all_among of to more n (member k t ms) h = (λ e. more t (h.0 e), all_among of to more n ms h.1)
 

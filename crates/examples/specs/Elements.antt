@@ -4,13 +4,13 @@ use Rattle.miniserde.specs.Tree.{Tree, list, Trees, no_trees, tree}
 use Rattle.miniserde.specs.Step.{Step, seq, element, map, finish}
 
 -- how many trees
-abbrev pub number_of : Trees → ℕ
-number_of no_trees = 0
-number_of (tree t ts) = 1 + number_of ts
+abbrev pub count_trees : Trees → ℕ
+count_trees no_trees = 0
+count_trees (tree t ts) = 1 + count_trees ts
 
 -- how many elements the tree has, where it is a list
 abbrev pub elements_of : Tree → Option ℕ
-elements_of (list ts) = Some (number_of ts)
+elements_of (list ts) = Some (count_trees ts)
 elements_of _ = None
 
 -- how many elements of the outermost list are still to come, where some containers are open

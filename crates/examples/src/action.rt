@@ -72,7 +72,7 @@ impl Serialize for Say {
 }
 
 impl Ranged for Say {
-    ghost real = { λ v. ⟦<SayFields as WrittenFields>⟧.real (⟦<Say as Record>⟧.values v) };
+    ghost valid = { λ v. ⟦<SayFields as WrittenFields>⟧.valid (⟦<Say as Record>⟧.values v) };
 
     fn ranged(&self) {
         self.text.ranged();
@@ -176,8 +176,7 @@ impl Serialize for ActionMove {
 }
 
 impl Ranged for ActionMove {
-    ghost real = { λ v. ⟦<ActionMoveFields as WrittenFields>⟧.real (⟦<ActionMove as Record>⟧.values
-        v) };
+    ghost valid = { λ v. ⟦<ActionMoveFields as WrittenFields>⟧.valid (⟦<ActionMove as Record>⟧.values v) };
 
     fn ranged(&self) {
         self.x.ranged();
@@ -325,7 +324,7 @@ impl Serialize for Action {
 }
 
 impl Ranged for Action {
-    ghost real = { λ v. ⟦<ActionCases as WrittenCases>⟧.real (⟦<Action as DataEnum>⟧.values v) };
+    ghost valid = { λ v. ⟦<ActionCases as WrittenCases>⟧.valid (⟦<Action as DataEnum>⟧.values v) };
 
     fn ranged(&self) {
         match self {

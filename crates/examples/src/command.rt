@@ -71,7 +71,7 @@ impl Serialize for CommandMove {
 }
 
 impl Ranged for CommandMove {
-    ghost real = { λ v. ⟦<CommandMoveFields as WrittenFields>⟧.real (⟦<CommandMove as Record>⟧.values v) };
+    ghost valid = { λ v. ⟦<CommandMoveFields as WrittenFields>⟧.valid (⟦<CommandMove as Record>⟧.values v) };
 
     fn ranged(&self) {
         self.x.ranged();
@@ -187,7 +187,7 @@ impl Serialize for Command {
 }
 
 impl Ranged for Command {
-    ghost real = { λ v. ⟦<CommandCases as WrittenCases>⟧.real (⟦<Command as DataEnum>⟧.values v) };
+    ghost valid = { λ v. ⟦<CommandCases as WrittenCases>⟧.valid (⟦<Command as DataEnum>⟧.values v) };
 
     fn ranged(&self) {
         match self {

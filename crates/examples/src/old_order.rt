@@ -72,7 +72,7 @@ impl Serialize for OldOrder {
 }
 
 impl Ranged for OldOrder {
-    ghost real = { λ v. ⟦<OldOrderFields as WrittenFields>⟧.real (⟦<OldOrder as Record>⟧.values v) };
+    ghost valid = { λ v. ⟦<OldOrderFields as WrittenFields>⟧.valid (⟦<OldOrder as Record>⟧.values v) };
 
     fn ranged(&self) {
         self.id.ranged();

@@ -80,7 +80,7 @@ impl Serialize for Order {
 }
 
 impl Ranged for Order {
-    ghost real = { λ v. ⟦<OrderFields as WrittenFields>⟧.real (⟦<Order as Record>⟧.values v) };
+    ghost valid = { λ v. ⟦<OrderFields as WrittenFields>⟧.valid (⟦<Order as Record>⟧.values v) };
 
     fn ranged(&self) {
         self.id.ranged();

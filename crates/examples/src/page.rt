@@ -69,7 +69,7 @@ impl<T: FromJson + Ranged + Serialize> Serialize for Page<T> {
 }
 
 impl<T: FromJson + Ranged + Serialize> Ranged for Page<T> {
-    ghost real = { λ v. ⟦<PageFields<T> as WrittenFields>⟧.real (⟦<Page<T> as Record>⟧.values v) };
+    ghost valid = { λ v. ⟦<PageFields<T> as WrittenFields>⟧.valid (⟦<Page<T> as Record>⟧.values v) };
 
     fn ranged(&self) {
         self.items.ranged();

@@ -92,7 +92,7 @@ impl Serialize for ReplyFailed {
 }
 
 impl Ranged for ReplyFailed {
-    ghost real = { λ v. ⟦<ReplyFailedFields as WrittenFields>⟧.real (⟦<ReplyFailed as Record>⟧.values v) };
+    ghost valid = { λ v. ⟦<ReplyFailedFields as WrittenFields>⟧.valid (⟦<ReplyFailed as Record>⟧.values v) };
 
     fn ranged(&self) {
         self.code.ranged();
@@ -228,7 +228,7 @@ impl<T: FromJson + Ranged + Serialize> Serialize for Reply<T> {
 }
 
 impl<T: FromJson + Ranged + Serialize> Ranged for Reply<T> {
-    ghost real = { λ v. ⟦<ReplyCases<T> as WrittenCases>⟧.real (⟦<Reply<T> as DataEnum>⟧.values v) };
+    ghost valid = { λ v. ⟦<ReplyCases<T> as WrittenCases>⟧.valid (⟦<Reply<T> as DataEnum>⟧.values v) };
 
     fn ranged(&self) {
         match self {

@@ -150,7 +150,7 @@ impl Serialize for Service {
 }
 
 impl Ranged for Service {
-    ghost real = { λ v. ⟦<ServiceFields as WrittenFields>⟧.real (⟦<Service as Record>⟧.values v) };
+    ghost valid = { λ v. ⟦<ServiceFields as WrittenFields>⟧.valid (⟦<Service as Record>⟧.values v) };
 
     fn ranged(&self) {
         self.id.ranged();

@@ -62,7 +62,7 @@ impl Serialize for OldState {
 }
 
 impl Ranged for OldState {
-    ghost real = { λ _. ⊤ };
+    ghost valid = { λ _. ⊤ };
 
     fn ranged(&self) {}
 }
@@ -144,7 +144,7 @@ impl Serialize for OldTask {
 }
 
 impl Ranged for OldTask {
-    ghost real = { λ v. ⟦<OldTaskFields as WrittenFields>⟧.real (⟦<OldTask as Record>⟧.values v) };
+    ghost valid = { λ v. ⟦<OldTaskFields as WrittenFields>⟧.valid (⟦<OldTask as Record>⟧.values v) };
 
     fn ranged(&self) {
         self.id.ranged();
@@ -213,7 +213,7 @@ impl Serialize for State {
 }
 
 impl Ranged for State {
-    ghost real = { λ _. ⊤ };
+    ghost valid = { λ _. ⊤ };
 
     fn ranged(&self) {}
 }
@@ -330,7 +330,7 @@ impl Serialize for Task {
 }
 
 impl Ranged for Task {
-    ghost real = { λ v. ⟦<TaskFields as WrittenFields>⟧.real (⟦<Task as Record>⟧.values v) };
+    ghost valid = { λ v. ⟦<TaskFields as WrittenFields>⟧.valid (⟦<Task as Record>⟧.values v) };
 
     fn ranged(&self) {
         self.id.ranged();

@@ -59,7 +59,7 @@ impl Serialize for AccountId {
 }
 
 impl Ranged for AccountId {
-    ghost real = { λ v. ⟦<AccountId as TextValue>⟧.parsed (⟦<AccountId as TextValue>⟧.text
+    ghost valid = { λ v. ⟦<AccountId as TextValue>⟧.parsed (⟦<AccountId as TextValue>⟧.text
         (⟦<AccountId as TextValue>⟧.content v)) ≡ Some (⟦<AccountId as TextValue>⟧.content v) };
 
     fn ranged(&self) {
@@ -191,7 +191,7 @@ impl Serialize for Account {
 }
 
 impl Ranged for Account {
-    ghost real = { λ v. ⟦<AccountFields as WrittenFields>⟧.real (⟦<Account as Record>⟧.values v) };
+    ghost valid = { λ v. ⟦<AccountFields as WrittenFields>⟧.valid (⟦<Account as Record>⟧.values v) };
 
     fn ranged(&self) {
         self.id.ranged();

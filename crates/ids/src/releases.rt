@@ -53,7 +53,7 @@ impl Serialize for Release {
 }
 
 impl Ranged for Release {
-    ghost real = { λ v. ⟦<Release as TextValue>⟧.parsed (⟦<Release as TextValue>⟧.text (⟦<Release as TextValue>⟧.content v)) ≡ Some (⟦<Release as TextValue>⟧.content v) };
+    ghost valid = { λ v. ⟦<Release as TextValue>⟧.parsed (⟦<Release as TextValue>⟧.text (⟦<Release as TextValue>⟧.content v)) ≡ Some (⟦<Release as TextValue>⟧.content v) };
 
     fn ranged(&self) {
         self.is_read_back()

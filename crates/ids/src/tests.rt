@@ -9,7 +9,7 @@ use miniserde::json::{feed, from_str, to_string};
 use miniserde::{Deserialize, Error, Result, Serialize};
 use std::alloc::Global;
 use std::test::Fail;
-use test_tables::{Wrong, expect_read_again, expect_read_itself};
+use test_tables::{Wrong, expect_read_itself, expect_round_trip};
 
 const IDS: &str = r#""67e55044-10b1-426f-9247-bb680e5fe0c8" => same
 "67E55044-10B1-426F-9247-BB680E5FE0C8" => "67e55044-10b1-426f-9247-bb680e5fe0c8"
@@ -49,7 +49,7 @@ null"#;
 fn texts_of_identifiers_and_releases(rt: HostRuntime) -> std::result::Result<(), Wrong> {
     expect_read_itself::<AccountId>(rt.alloc(), IDS)?;
     expect_read_itself::<Account>(rt.alloc(), ACCOUNTS)?;
-    expect_read_again::<Release>(rt.alloc(), RELEASES)
+    expect_round_trip::<Release>(rt.alloc(), RELEASES)
 }
 
 // Returns the text of the value that a type's place takes from a text.

@@ -62,7 +62,7 @@ pub use Rattle.miniserde_value.specs.Retained
 pub use Rattle.miniserde_value.specs.Values
 pub use Rattle.miniserde_value.specs.Looks
 pub use Rattle.miniserde_value.specs.Hole
-pub use Rattle.miniserde_value.specs.Kinds
+pub use Rattle.miniserde_value.specs.OnlyContainers
 pub use Rattle.miniserde_value.specs.Meanings as DocumentMeanings
 pub use Rattle.miniserde_laws.specs.RoundTrip
 pub use Rattle.miniserde_record.specs.Aliases

@@ -17,9 +17,9 @@ use miniserde_stored::{Stable, means_in_normal_form};
 /// the content of that value, and that two valid values whose trees have one normal form have the same content. Trees
 /// in range whose canonical texts are equal have one normal form (`compact_spells`, `canonical_texts_equal`).
 pub fn canonical_text_determines_content<T: Stable + Lossless>()
-    ensures itself { (v w : T) (u : Tree) → T.real v → norm u ≡ norm (T.tree v) → T.means.reads u w
+    ensures itself { (v w : T) (u : Tree) → T.valid v → norm u ≡ norm (T.tree v) → T.means.reads u w
         → T.means.content w ≡ T.means.content v }
-    ensures one { (v w : T) → T.real v → T.real w → norm (T.tree v) ≡ norm (T.tree w)
+    ensures one { (v w : T) → T.valid v → T.valid w → norm (T.tree v) ≡ norm (T.tree w)
         → T.means.content v ≡ T.means.content w }
 {
     means_in_normal_form::<T>();

@@ -4,14 +4,14 @@ use Rattle.std.proofs.Common.{◌≡◌, ◌+◌, ℕ, suc, List, [], ◌∷◌,
 use Rattle.std.proofs.Common.{append_assoc, append-nil, arith, length-append}
 use Rattle.miniserde_canonical.specs.declared.spread.Splice.{Splice}
 use Rattle.miniserde_canonical.specs.declared.member.Member.{Member}
-use Rattle.miniserde_canonical.specs.private.Spreads.{Holds, none}
-use Rattle.miniserde_canonical.specs.private.Names.{name_of}
-use Rattle.miniserde_canonical.specs.private.Arranging.{comma_before, Entry, entries_text}
-use Rattle.miniserde_canonical.specs.private.Sorting.{Seam, Chain}
-use Rattle.miniserde_canonical.proofs.Spreads.{holds_append, holds_behind, holds_more}
+use Rattle.miniserde_canonical.specs.private.SplicedTexts.{Holds, none}
+use Rattle.miniserde_canonical.specs.private.MemberNames.{name_of}
+use Rattle.miniserde_canonical.specs.private.States.{comma_before, MemberEntry, entries_text}
+use Rattle.miniserde_canonical.specs.private.SortMembers.{Seam, Chain}
+use Rattle.miniserde_canonical.proofs.SplicedTexts.{holds_append, holds_behind, holds_more}
 
 -- the end is as far from a seam as from the begin
-seam_end : {B K : List ℕ → List Splice → Type 0} (n : Member) (e : Entry) (at k : ℕ) (bs : List ℕ) (hs : List Splice)
+seam_end : {B K : List ℕ → List Splice → Type 0} (n : Member) (e : MemberEntry) (at k : ℕ) (bs : List ℕ) (hs : List Splice)
     (s : Seam B K n e at k bs hs) → (at + length bs ≡ n.point.bytes + length s.behind)
     × (k + length hs ≡ n.point.splices + length s.splices_behind)
 seam_end n e at k bs hs s = (
@@ -27,7 +27,7 @@ seam_end n e at k bs hs s = (
 )
 
 -- the same seam, of whose parts other things hold
-seam_as : {B C K L : List ℕ → List Splice → Type 0} (n : Member) (e : Entry) (at k : ℕ) (bs : List ℕ) (hs : List Splice)
+seam_as : {B C K L : List ℕ → List Splice → Type 0} (n : Member) (e : MemberEntry) (at k : ℕ) (bs : List ℕ) (hs : List Splice)
     (s : Seam B K n e at k bs hs) → C s.before s.splices_before → L s.behind s.splices_behind → Seam C L n e at k bs hs
 seam_as n e at k bs hs s b c = record {
   before = s.before;
@@ -45,7 +45,7 @@ seam_as n e at k bs hs s b c = record {
 }
 
 -- more behind a seam
-seam_more : {B K L : List ℕ → List Splice → Type 0} (n : Member) (e : Entry) (at k : ℕ) (bs : List ℕ) (hs : List Splice)
+seam_more : {B K L : List ℕ → List Splice → Type 0} (n : Member) (e : MemberEntry) (at k : ℕ) (bs : List ℕ) (hs : List Splice)
     (cs : List ℕ) (ks : List Splice) (s : Seam B K n e at k bs hs) → L (s.behind ++ cs) (s.splices_behind ++ ks)
     → Seam B L n e at k (bs ++ cs) (hs ++ ks)
 seam_more n e at k bs hs cs ks s c = record {
@@ -67,7 +67,7 @@ seam_more n e at k bs hs cs ks s c = record {
     rejoin b x c y = simp append_assoc refl
 
 -- a chain has as many members as entries
-pub chain_lengths : (ns : List Member) (es : List Entry) (ms : List ℕ) (gs : List Splice) (at k : ℕ) (bs : List ℕ)
+pub chain_lengths : (ns : List Member) (es : List MemberEntry) (ms : List ℕ) (gs : List Splice) (at k : ℕ) (bs : List ℕ)
     (hs : List Splice) (last : List ℕ) → Chain ns es ms gs at k bs hs last → length ns ≡ length es
 chain_lengths [] [] ms gs at k bs hs last h = refl
 chain_lengths (n ∷ ns) (e ∷ es) ms gs at k bs hs last h =
@@ -76,7 +76,7 @@ chain_lengths [] (e ∷ es) ms gs at k bs hs last h = absurd h
 chain_lengths (n ∷ ns) [] ms gs at k bs hs last h = absurd h
 
 -- more text behind the last member
-pub chain_add : (ns : List Member) (es : List Entry) (ms : List ℕ) (gs : List Splice) (at k to : ℕ) (bs cs : List ℕ)
+pub chain_add : (ns : List Member) (es : List MemberEntry) (ms : List ℕ) (gs : List Splice) (at k to : ℕ) (bs cs : List ℕ)
     (hs ks : List Splice) (last y : List ℕ) → Chain ns es ms gs at k bs hs last → to ≡ at + length bs
     → Holds ms gs to cs ks y → Chain ns es ms gs at k (bs ++ cs) (hs ++ ks) (last ++ y)
 chain_add [] [] ms gs at k to bs cs hs ks last y h e u = holds_append to cs ks y h e u
@@ -88,7 +88,7 @@ chain_add [] (e ∷ es) ms gs at k to bs cs hs ks last y h f u = absurd h
 chain_add (n ∷ ns) [] ms gs at k to bs cs hs ks last y h f u = absurd h
 
 -- more groups
-pub chain_more : (ns : List Member) (es : List Entry) (ms : List ℕ) (gs : List Splice) (at k : ℕ) (bs : List ℕ)
+pub chain_more : (ns : List Member) (es : List MemberEntry) (ms : List ℕ) (gs : List Splice) (at k : ℕ) (bs : List ℕ)
     (hs : List Splice) (last : List ℕ) (more : List ℕ) (inner : List Splice) → Chain ns es ms gs at k bs hs last
     → Chain ns es (ms ++ more) (gs ++ inner) at k bs hs last
 chain_more [] [] ms gs at k bs hs last more inner h = holds_more more inner h
@@ -100,15 +100,15 @@ chain_more (n ∷ ns) [] ms gs at k bs hs last more inner h = absurd h
 
 -- the member n stands for the entry e, and begins after the bytes bs and a comma, and after the splices hs, whose
 -- indices begin at `at` and k
-pub record BeginsBehind (n : Member) (e : Entry) (at k : ℕ) (bs : List ℕ) (hs : List Splice) : Type 0 where
+pub record BeginsBehind (n : Member) (e : MemberEntry) (at k : ℕ) (bs : List ℕ) (hs : List Splice) : Type 0 where
   pub name : name_of n.name ≡ e.name
   pub first : n.first ≡ e.first
   pub bytes : n.point.bytes ≡ at + length (bs ++ comma_before e.first)
   pub splices : n.point.splices ≡ k + length hs
 
 -- one more member
-pub chain_begin : (ns : List Member) (es : List Entry) (ms : List ℕ) (gs : List Splice) (at k : ℕ) (bs : List ℕ)
-    (hs : List Splice) (last : List ℕ) (n : Member) (e : Entry) → Chain ns es ms gs at k bs hs last → e.earlier_text ≡ last
+pub chain_begin : (ns : List Member) (es : List MemberEntry) (ms : List ℕ) (gs : List Splice) (at k : ℕ) (bs : List ℕ)
+    (hs : List Splice) (last : List ℕ) (n : Member) (e : MemberEntry) → Chain ns es ms gs at k bs hs last → e.earlier_text ≡ last
     → BeginsBehind n e at k bs hs → Chain (ns ++ n ∷ []) (es ++ e ∷ []) ms gs at k (bs ++ comma_before e.first) hs []
 chain_begin [] [] ms gs at k bs hs last n e h t b = record {
   before = bs;
@@ -139,7 +139,7 @@ chain_begin [] (f ∷ es) ms gs at k bs hs last n e h t b = absurd h
 chain_begin (m ∷ ns) [] ms gs at k bs hs last n e h t b = absurd h
 
 -- the text of all
-pub chain_whole : (ns : List Member) (es : List Entry) (ms : List ℕ) (gs : List Splice) (at k : ℕ) (bs : List ℕ)
+pub chain_whole : (ns : List Member) (es : List MemberEntry) (ms : List ℕ) (gs : List Splice) (at k : ℕ) (bs : List ℕ)
     (hs : List Splice) (last : List ℕ) → Chain ns es ms gs at k bs hs last
     → Holds ms gs at bs hs (entries_text es last)
 chain_whole [] [] ms gs at k bs hs last h = h
@@ -160,7 +160,7 @@ chain_whole [] (e ∷ es) ms gs at k bs hs last h = absurd h
 chain_whole (n ∷ ns) [] ms gs at k bs hs last h = absurd h
 
 -- without the last members, whose text stays
-pub chain_merge : (ns0 : List Member) (es0 : List Entry) (ns : List Member) (es : List Entry) (ms : List ℕ)
+pub chain_merge : (ns0 : List Member) (es0 : List MemberEntry) (ns : List Member) (es : List MemberEntry) (ms : List ℕ)
     (gs : List Splice) (at k : ℕ) (bs : List ℕ) (hs : List Splice) (last : List ℕ) → length ns0 ≡ length es0
     → Chain (ns0 ++ ns) (es0 ++ es) ms gs at k bs hs last → Chain ns0 es0 ms gs at k bs hs (entries_text es last)
 chain_merge [] [] ns es ms gs at k bs hs last l h = chain_whole ns es ms gs at k bs hs last h
@@ -171,14 +171,14 @@ chain_merge [] (f ∷ es0) ns es ms gs at k bs hs last l h = absurd (omega (arit
 chain_merge (m ∷ ns0) [] ns es ms gs at k bs hs last l h = absurd (omega (arith, l))
 
 -- a chain cut before a member
-abbrev pub Cut : List Member → List Entry → Member → Entry → List Member → List Entry → List ℕ → List Splice → ℕ → ℕ
+abbrev pub Cut : List Member → List MemberEntry → Member → MemberEntry → List Member → List MemberEntry → List ℕ → List Splice → ℕ → ℕ
     → List ℕ → List Splice → List ℕ → Type 0
 Cut ns0 es0 n e ns es ms gs at k bs hs last =
     Seam (λ b h. Chain ns0 es0 ms gs at k b h e.earlier_text)
     (λ c g. Chain ns es ms gs n.point.bytes n.point.splices c g last) n e at k bs hs
 
 -- a chain with the member n and its entry e at the same index is cut before n
-pub chain_cut : (ns0 : List Member) (es0 : List Entry) (n : Member) (e : Entry) (ns : List Member) (es : List Entry)
+pub chain_cut : (ns0 : List Member) (es0 : List MemberEntry) (n : Member) (e : MemberEntry) (ns : List Member) (es : List MemberEntry)
     (ms : List ℕ) (gs : List Splice) (at k : ℕ) (bs : List ℕ) (hs : List Splice) (last : List ℕ)
     → length ns0 ≡ length es0 → Chain (ns0 ++ n ∷ ns) (es0 ++ e ∷ es) ms gs at k bs hs last
     → Cut ns0 es0 n e ns es ms gs at k bs hs last

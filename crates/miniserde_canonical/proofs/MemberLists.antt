@@ -15,16 +15,16 @@ use Rattle.miniserde_model.specs.Tree.{Tree, str, Members, no_members, member}
 use Rattle.miniserde_model.specs.Normal.{text_cmp, norm_neg, norm, norm_members, or_else, last_of, BeginsAbove, Rise}
 use Rattle.miniserde_model.proofs.OneNormal.{norm_only}
 use Rattle.miniserde_canonical.specs.declared.member.Member.{Member}
-use Rattle.miniserde_canonical.specs.private.Names.{name_of}
+use Rattle.miniserde_canonical.specs.private.MemberNames.{name_of}
 use Rattle.miniserde_canonical.specs.private.Members.{first_name, name_in, NamesRise, named_members, members_at}
 use Rattle.miniserde_canonical.specs.private.Members.{begins_with_name, without_repeats}
-use Rattle.miniserde_canonical.specs.private.Arranging.{Entry, text_before, entry_members, count}
-use Rattle.miniserde_canonical.specs.private.Sorting.{text_at, own_text_tree}
+use Rattle.miniserde_canonical.specs.private.States.{MemberEntry, text_before, entry_members, count}
+use Rattle.miniserde_canonical.specs.private.SortMembers.{text_at, own_text_tree}
 
 -- ---- names and entries
 
 -- there are as many members as entries, and they have the same names in order
-abbrev pub Agree : List Member → List Entry → Type 0
+abbrev pub Agree : List Member → List MemberEntry → Type 0
 Agree [] [] = Unit {0}
 Agree (n ∷ ns) (e ∷ es) = (name_of n.name ≡ e.name) × Agree ns es
 Agree _ _ = ⊥
@@ -46,31 +46,31 @@ drop_tail {X = X} i xs y ys e = ap (λ z. drop z xs) (add-one i) ∙ tail i xs e
     tail zero (x ∷ xs) e = let same : xs ≡ ys = cc in same
     tail (suc i) (x ∷ xs) e = tail i xs e
 
-rows_from : (i : ℕ) (all ns : List Member) (alles es : List Entry) (last : List ℕ) → drop i all ≡ ns
+rows_from : (i : ℕ) (all ns : List Member) (alles es : List MemberEntry) (last : List ℕ) → drop i all ≡ ns
     → drop i alles ≡ es → Agree ns es → members_at all (own_text_tree alles last) (range_with_len i (length ns))
     ≡ entry_members es last
 rows_from i all [] alles [] last e f a = refl
 rows_from i all (n ∷ ns) alles (x ∷ es) last e f a =
-    ap₂ (λ (p : List Member) (q : List Entry). member (first_name p) (str (text_at q last))
+    ap₂ (λ (p : List Member) (q : List MemberEntry). member (first_name p) (str (text_at q last))
     (members_at all (own_text_tree alles last) (range_with_len (i + 1) (length ns)))) e f
     ∙ ap₂ (λ (p : List ℕ) (q : Members). member p (str (text_before es last)) q) a.0
     (rows_from (i + 1) all ns alles es last (drop_tail i all n ns e) (drop_tail i alles x es f) a.1)
 rows_from i all [] alles (x ∷ es) last e f a = absurd a
 rows_from i all (n ∷ ns) alles [] last e f a = absurd a
 
-pub rows_all : (ns : List Member) (es : List Entry) (last : List ℕ) → Agree ns es
+pub rows_all : (ns : List Member) (es : List MemberEntry) (last : List ℕ) → Agree ns es
     → members_at ns (own_text_tree es last) (range_with_len 0 (length ns)) ≡ entry_members es last
 rows_all ns es last a = rows_from 0 ns ns es es last refl refl a
 
 -- members that agree with entries are as many as the entries
-pub ended_count : (ns : List Member) (es : List Entry) (last : List ℕ) → Agree ns es → count (entry_members es last) ≡ length ns
+pub ended_count : (ns : List Member) (es : List MemberEntry) (last : List ℕ) → Agree ns es → count (entry_members es last) ≡ length ns
 ended_count [] [] last a = refl
 ended_count (n ∷ ns) (e ∷ es) last a = ap suc (ended_count ns es last a.1)
 ended_count [] (e ∷ es) last a = absurd a
 ended_count (n ∷ ns) [] last a = absurd a
 
 -- if the names of members rise, those of the entries that agree with them rise
-pub rise_all : (ns : List Member) (es : List Entry) (last : List ℕ) → Agree ns es → NamesRise ns → Rise (entry_members es last)
+pub rise_all : (ns : List Member) (es : List MemberEntry) (last : List ℕ) → Agree ns es → NamesRise ns → Rise (entry_members es last)
 rise_all [] [] last a h = tt
 rise_all (n ∷ []) (e ∷ []) last a h = (tt, tt)
 rise_all (n ∷ m ∷ ns) (e ∷ f ∷ es) last a h = (
@@ -279,7 +279,7 @@ normal_tree true None x h = refl
 normal_tree false None x h = refl
 normal_tree b (Some t) x h = h
 
-normal_last : (q : List ℕ) (es : List Entry) (last : List ℕ) → option_map norm (last_of q (entry_members es last))
+normal_last : (q : List ℕ) (es : List MemberEntry) (last : List ℕ) → option_map norm (last_of q (entry_members es last))
     ≡ last_of q (entry_members es last)
 normal_last q [] last = refl
 normal_last q (e ∷ es) last = normal_tree (bytes_eq e.name q) (last_of q (entry_members es last))
@@ -293,7 +293,7 @@ pub record InNameOrder (ns : List Member) (order : List ℕ) : Type 0 where
       → last_of q (members_at ns r order) ≡ last_of q (members_at ns r (range_with_len 0 (length ns)))
 
 -- members sorted by name, each name with its last tree, are without repeats the normal form of the entries
-pub kept_normal : (ns : List Member) (es : List Entry) (last order : List ℕ) → Agree ns es → InNameOrder ns order
+pub kept_normal : (ns : List Member) (es : List MemberEntry) (last order : List ℕ) → Agree ns es → InNameOrder ns order
     → without_repeats (members_at ns (own_text_tree es last) order) ≡ norm_members (entry_members es last)
 kept_normal ns es last order a o =
     let r = own_text_tree es last in

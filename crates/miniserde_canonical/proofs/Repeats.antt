@@ -13,7 +13,7 @@ use Rattle.miniserde_model.specs.Normal.{text_cmp, with_if_absent_by, with_if_ab
 use Rattle.miniserde_model.specs.Distinct.{has_name, names_distinct, names_distinct_in_members}
 use Rattle.miniserde_model.proofs.Lookups.{norm_keeps_last, norm_rises}
 use Rattle.miniserde_model.proofs.OneNormal.{absent}
-use Rattle.miniserde_canonical.specs.private.Arranging.{count}
+use Rattle.miniserde_canonical.specs.private.States.{count}
 
 -- ---- one more member
 
@@ -107,9 +107,9 @@ counts_names : (ms : Members) → Counts (names_once ms) (count (norm_members ms
 counts_names no_members = refl
 counts_names (member n t ms) = one_more n (norm t) ms (names_once ms) (has_name n ms) refl (counts_names ms)
 
-told_by : (p : Bool) (a b : ℕ) → Counts p a b → nat_eq a b ≡ p
-told_by true a b h = eq-eqb a b h
-told_by false a b h = grind (arith, nat_tests, h)
+counts_decide : (p : Bool) (a b : ℕ) → Counts p a b → nat_eq a b ≡ p
+counts_decide true a b h = eq-eqb a b h
+counts_decide false a b h = grind (arith, nat_tests, h)
 
 -- each tree of the members is without duplicate names
 abbrev pub nested_names_distinct : Members → Bool
@@ -131,4 +131,5 @@ distinct_parts (member n t ms) = ap (λ z. not (has_name n ms) && (names_distinc
 -- members have distinct names throughout if their trees do and their normal form has as many members
 pub distinct_counted : (ms : Members) → names_distinct_in_members ms
     ≡ (nested_names_distinct ms && nat_eq (count (norm_members ms)) (count ms))
-distinct_counted ms = distinct_parts ms ∙ ap (λ z. nested_names_distinct ms && z) (sym (told_by (names_once ms) _ _ (counts_names ms)))
+distinct_counted ms =
+    distinct_parts ms ∙ ap (λ z. nested_names_distinct ms && z) (sym (counts_decide (names_once ms) _ _ (counts_names ms)))

@@ -13,11 +13,11 @@ ghost use Rattle.std.specs.Prelude.{◌≡◌, ◌++◌, ◌∷◌, [], ℕ, Lis
 ghost use Rattle.miniserde_model.specs.Compact.{string_text};
 ghost use Rattle.miniserde_text.specs.Lexer.{Blank, event_of_token, text_of, SpelledToken};
 ghost use Rattle.miniserde_text.specs.private.Escape.{escapes};
-ghost use Rattle.miniserde_text.specs.private.Moving.{opened_kind};
+ghost use Rattle.miniserde_text.specs.private.Moments.{opened_kind};
 ghost use Rattle.miniserde_canonical.specs.CanonicalToken.{name};
-ghost use Rattle.miniserde_canonical.specs.private.Moving.{first_token};
+ghost use Rattle.miniserde_canonical.specs.private.EventTokens.{first_token};
 ghost use Rattle.miniserde_canonical.specs.private.Plain.{TextPlain, SpellsToken, NameSpelled};
-ghost use Rattle.miniserde_canonical.specs.private.Arranging.{State, TokenStep, Closes, comma_before, start};
+ghost use Rattle.miniserde_canonical.specs.private.States.{State, TokenStep, Closes, comma_before, start};
 ghost use Rattle.miniserde_canonical.specs.private.Drafts.{Wrote, Holding, ChangesOnlyText, Represents};
 
 use crate::member::{Member, Name};
@@ -166,7 +166,7 @@ impl<'a> Draft<'a> {
     /// the innermost object. `first` says that the member is the first of its object. If it is not, its comma is in the
     /// text or the run already. Fails if an allocation fails, or if an index overflows.
     #[inline(always)]
-    pub(crate) fn name(
+    pub(crate) fn add_member(
         &mut self,
         text: Text<'a>,
         scratch: &str,

@@ -1,7 +1,7 @@
 //! Fills the splices of a text with their groups.
 ghost use Rattle.std.specs.Prelude.{◌≡◌, ◌++◌, ◌+◌, ◌<◌, ℕ, List, IfOk, OnOk};
-ghost use Rattle.miniserde_canonical.specs.private.Spreads.{FilledText, SplicesInOrder, Ordered};
-ghost use Rattle.miniserde_canonical.specs.private.Waiting.{SpanHolds, SpansHold, span_measure, spans_measure};
+ghost use Rattle.miniserde_canonical.specs.private.SplicedTexts.{FilledText, SplicesInOrder, Ordered};
+ghost use Rattle.miniserde_canonical.specs.private.WaitingSpans.{SpanHolds, SpansHold, span_measure, spans_measure};
 
 use crate::spread::{Point, Span, SplicedText, part};
 use std::alloc::{AllocError, Global};

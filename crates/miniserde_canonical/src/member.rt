@@ -1,7 +1,7 @@
 //! The members of open objects, with the first bytes of their names as numbers, which are fast to compare.
 ghost use Rattle.std.specs.Prelude.{◌≡◌, IfOk, get_or};
 ghost use Rattle.miniserde_text.specs.Lexer.{text_of};
-ghost use Rattle.miniserde_canonical.specs.private.Names.{name_of, IsLeadingBytes};
+ghost use Rattle.miniserde_canonical.specs.private.MemberNames.{name_of, IsLeadingBytes};
 
 use crate::spread::Point;
 use miniserde_text::json::lex::Text;

@@ -5,7 +5,7 @@ ghost use Rattle.std.specs.List.{range_with_len};
 ghost use Rattle.std.specs.declared.cmp.Ordering.TheVariants.{Less};
 ghost use Rattle.miniserde_model.specs.Tree.{Tree};
 ghost use Rattle.miniserde_model.specs.Normal.{text_cmp, last_of};
-ghost use Rattle.miniserde_canonical.specs.private.Names.{name_of};
+ghost use Rattle.miniserde_canonical.specs.private.MemberNames.{name_of};
 ghost use Rattle.miniserde_canonical.specs.private.Members.{name_in, members_at, begins_with_name, begin_of, end_of, NamesRise};
 
 use crate::member::Member;

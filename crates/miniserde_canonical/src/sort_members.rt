@@ -1,6 +1,6 @@
 //! Puts the members of a closed object in the order of their names.
 ghost use Rattle.std.specs.Prelude.{◌≡◌, ◌<◌, length, IfOk, OnOk};
-ghost use Rattle.miniserde_canonical.specs.private.Sorting.{texts, SortsMembers, PutsMembers, PutsMember, PutsBack};
+ghost use Rattle.miniserde_canonical.specs.private.SortMembers.{texts, SortsMembers, PutsMembers, PutsMember, PutsBack};
 
 use crate::member::Member;
 use crate::members::{fill, repeats, sort, span_of};

@@ -1,6 +1,6 @@
 //! Texts with splices: points at which the text of a group belongs.
 ghost use Rattle.std.specs.Prelude.{◌≡◌, ◌≤◌, ◌++◌, [], length, take, map, IfOk, OnOk};
-ghost use Rattle.miniserde_canonical.specs.private.Spreads.{Within, bytes_in, splices_in, part_between, shifted_splice};
+ghost use Rattle.miniserde_canonical.specs.private.SplicedTexts.{Within, bytes_in, splices_in, part_between, shifted_splice};
 
 use std::alloc::{AllocError, Global};
 

@@ -48,7 +48,7 @@ pub use Rattle.miniserde_value.specs.Retained
 pub use Rattle.miniserde_value.specs.Values
 pub use Rattle.miniserde_value.specs.Looks
 pub use Rattle.miniserde_value.specs.Hole
-pub use Rattle.miniserde_value.specs.Kinds
+pub use Rattle.miniserde_value.specs.OnlyContainers
 pub use Rattle.miniserde_value.specs.Meanings as DocumentMeanings
 pub use Rattle.miniserde_record.specs.Aliases
 pub use Rattle.miniserde_record.specs.Fields

@@ -21,7 +21,7 @@ use Rattle.miniserde_place.specs.LeafPlace.{value_of, refusal_of as leaf_refusal
 use Rattle.miniserde_place.specs.laws.Leaf.{one-event}
 use Rattle.miniserde_value.specs.declared.json.number.Number.{Number}
 use Rattle.miniserde_de.specs.declared.documents.number_place.NumberPlace.{NumberPlace}
-use Rattle.miniserde_value.specs.Numbers.{number_leaf, number_of}
+use Rattle.miniserde_value.specs.Numbers.{number_leaf, if_number}
 use Rattle.miniserde_value.specs.Meanings.{value_meaning, unique_meaning, number_meaning}
 use Rattle.miniserde_de.specs.DocumentMeanings.{DocumentMeaning, document_outcome}
 use Rattle.miniserde_value.specs.laws.Unique.{once-whole}
@@ -91,7 +91,7 @@ pub record DocumentTakes {V : Type 0} (k : DocumentMeaning V) (old : ValuePlace)
 -- no number, or if the place has its number already.
 abbrev pub NumberTakes : NumberPlace → Step → Result (Unit {0}) Error → Type 0
 NumberTakes old e answer =
-    (on_leaf number_of e ≡ None → answer ≡ Err (first_refusal (leaf_refusal old.place) Invalid))
+    (on_leaf if_number e ≡ None → answer ≡ Err (first_refusal (leaf_refusal old.place) Invalid))
     × (leaf_at (value_of old.place) ≡ complete → answer ≡ Err (first_refusal (leaf_refusal old.place) Invalid))
 
 -- the meaning of the place of a `Unique`: a tree without duplicate names means those whose content is the retained
@@ -119,5 +119,5 @@ document_place_meaning k = place_meaning k.by_trees (λ es. k.only (document_out
 
 -- the meaning of the place of a `Number`: the leaf of a number means that number
 abbrev pub number_place_meaning : PlaceMeaning NumberPlace Number
-number_place_meaning = place_meaning number_meaning (from_one_event number_of) (one-event number_of (λ ts. refl, λ ms. refl))
-    (λ p. leaf_view number_leaf number_of (value_of p.place) (leaf_refusal p.place))
+number_place_meaning = place_meaning number_meaning (from_one_event if_number) (one-event if_number (λ ts. refl, λ ms. refl))
+    (λ p. leaf_view number_leaf if_number (value_of p.place) (leaf_refusal p.place))

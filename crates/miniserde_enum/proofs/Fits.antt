@@ -28,7 +28,7 @@ module _ (tag : Name) where
       → internal_variant tag (members (member tag (str n) ms)) ≡ Some (n, Some (members ms))
   written n ms e = rw (same-name tag, last (Some n) ms e, lacking ms e) refl
 
-  pub inside-fits : {T : Type 0} (real : T → Type 0) (tree : T → Tree)
+  pub inside-fits : {T : Type 0} (valid : T → Type 0) (tree : T → Tree)
       → ((x : T) → tree x ≡ members (object_members (tree x)))
-      → ((x : T) → count_named tag (object_members (tree x)) ≡ 0) → DataFits real tree (internal tag)
-  inside-fits real tree object named n x r = written n (object_members (tree x)) (named x) ∙ ap (λ t. Some (n, Some t)) (sym (object x))
+      → ((x : T) → count_named tag (object_members (tree x)) ≡ 0) → DataFits valid tree (internal tag)
+  inside-fits valid tree object named n x r = written n (object_members (tree x)) (named x) ∙ ap (λ t. Some (n, Some t)) (sym (object x))

@@ -10,7 +10,7 @@ use Rattle.miniserde_read.specs.Due.{ReadsDue, RejectsDue}
 use Rattle.miniserde_read.specs.Rest.{MembersAt}
 use Rattle.miniserde_read.specs.Source.{NameFollows}
 use Rattle.miniserde_read.proofs.Objects.{ObjectGoes, object_begins, object_goes, object_none}
-use Rattle.miniserde_text.proofs.Turning.{close_no_next}
+use Rattle.miniserde_text.proofs.NextChild.{close_no_next}
 use Rattle.miniserde_text.specs.Lexer.{text_of}
 use Rattle.miniserde_text.specs.declared.json.lex.Text.{Text}
 use Rattle.miniserde_enum.specs.Tagging.{content_by_tagging, external}

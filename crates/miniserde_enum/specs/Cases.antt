@@ -80,7 +80,7 @@ UnitFits tagging = (n : Name) → variant_of_tree tagging (variant_tree tagging 
 
 -- by the tagging, the tree that is written for a name with valid data gives back that name and the tree of the data
 abbrev pub DataFits : {T : Type 0} → (T → Type 0) → (T → Tree) → Tagging → Type 0
-DataFits {T} real tree tagging = (n : Name) (x : T) → real x
+DataFits {T} valid tree tagging = (n : Name) (x : T) → valid x
     → variant_of_tree tagging (variant_tree tagging n (Some (tree x))) ≡ Some (n, Some (tree x))
 
 -- ---- values
@@ -94,9 +94,9 @@ abbrev pub later_case : {T W : Type 0} → W → OneOf T W
 later_case w = Later w
 
 -- the value is valid: by `one` if it is of the first variant, and else by `later`
-abbrev pub CaseReal : {T W : Type 0} → (T → Type 0) → (W → Type 0) → OneOf T W → Type 0
-CaseReal one later (First x) = one x
-CaseReal one later (Later w) = later w
+abbrev pub CaseValid : {T W : Type 0} → (T → Type 0) → (W → Type 0) → OneOf T W → Type 0
+CaseValid one later (First x) = one x
+CaseValid one later (Later w) = later w
 
 -- the content of the value: by f if it is of the first variant, and else by g
 abbrev pub case_content : {T W C D : Type 0} → (T → C) → (W → D) → OneOf T W → OneOf C D

@@ -133,7 +133,7 @@ impl<T: Inside, R: InsideCases> InsideCases for DataCase<T, R> {
 
     ghost meaning = { data_and T.means R.meaning };
 
-    ghost fits = { λ tagging. DataFits T.real T.tree tagging × R.fits tagging };
+    ghost fits = { λ tagging. DataFits T.valid T.tree tagging × R.fits tagging };
 
     ghost apart = { λ tag. is_new tag T.fields && R.apart tag };
 

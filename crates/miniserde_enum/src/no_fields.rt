@@ -60,7 +60,7 @@ impl Serialize for NoFields {
 }
 
 impl Ranged for NoFields {
-    ghost real = { λ v. ⊤ };
+    ghost valid = { λ v. ⊤ };
 
     fn ranged(&self) {}
 }

@@ -3,7 +3,7 @@ ghost use Rattle.std.specs.Prelude.{List, ⊤};
 ghost use Rattle.miniserde_model.specs.Tree.{Tree, null};
 ghost use Rattle.miniserde_read.specs.types.Objects.{Name};
 ghost use Rattle.miniserde_enum.specs.Tagging.{Tagging};
-ghost use Rattle.miniserde_enum.specs.Cases.{CaseReal, case_tree, unit_tree, data_tree};
+ghost use Rattle.miniserde_enum.specs.Cases.{CaseValid, case_tree, unit_tree, data_tree};
 
 use crate::cases::{DataCase, NoCase, UnitCase};
 use crate::one_of::{Never, OneOf};
@@ -16,7 +16,7 @@ pub trait WrittenCases {
     type Values;
 
     // Which values are valid.
-    ghost real: { Self.Values → Type 0 };
+    ghost valid: { Self.Values → Type 0 };
 
     // The tree of a value, by the tagging and the names of the variants.
     ghost tree: { Tagging → List Name → Self.Values → Tree };
@@ -25,7 +25,7 @@ pub trait WrittenCases {
 impl WrittenCases for NoCase {
     type Values = Never;
 
-    ghost real = { λ _. ⊤ };
+    ghost valid = { λ _. ⊤ };
 
     ghost tree = { λ tagging names v. null };
 }
@@ -33,7 +33,7 @@ impl WrittenCases for NoCase {
 impl<R: WrittenCases> WrittenCases for UnitCase<R> {
     type Values = OneOf<(), R::Values>;
 
-    ghost real = { CaseReal (λ u. ⊤) R.real };
+    ghost valid = { CaseValid (λ u. ⊤) R.valid };
 
     ghost tree = { λ tagging. case_tree (unit_tree tagging) (R.tree tagging) };
 }
@@ -41,7 +41,7 @@ impl<R: WrittenCases> WrittenCases for UnitCase<R> {
 impl<T: Ranged + Serialize, R: WrittenCases> WrittenCases for DataCase<T, R> {
     type Values = OneOf<T, R::Values>;
 
-    ghost real = { CaseReal T.real R.real };
+    ghost valid = { CaseValid T.valid R.valid };
 
     ghost tree = { λ tagging. case_tree (data_tree tagging T.tree) (R.tree tagging) };
 }

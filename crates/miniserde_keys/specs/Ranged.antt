@@ -2,6 +2,6 @@
 use Rattle.std.specs.Prelude.{Option, Some, None, ⊤}
 
 -- the option is valid: it is `None`, or P holds of the value in it
-abbrev pub OptionReal : {T : Type 0} → (T → Type 0) → Option T → Type 0
-OptionReal P None = ⊤
-OptionReal P (Some x) = P x
+abbrev pub OptionValid : {T : Type 0} → (T → Type 0) → Option T → Type 0
+OptionValid P None = ⊤
+OptionValid P (Some x) = P x

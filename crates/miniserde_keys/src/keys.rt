@@ -52,8 +52,8 @@ pub trait MapKey: Ranged + Sized + Eq + Drop {
     ghost alike: { (a b : Self) → Self.eq a b ≡ bytes_eq (code (content a)) (code (content b)) };
 
     // The text of a valid key is read as a valid key that is equal.
-    ghost back: { (k : Self) → Self.real k
-        → (w : Self) × Self.real w × (read (text k) ≡ Some (content w)) × (code (content w) ≡ code (content k)) };
+    ghost back: { (k : Self) → Self.valid k
+        → (w : Self) × Self.valid w × (read (text k) ≡ Some (content w)) × (code (content w) ≡ code (content k)) };
 
     // Equal keys have the same text.
     ghost one_text: { (a b : Self) → code (content a) ≡ code (content b) → text a ≡ text b };

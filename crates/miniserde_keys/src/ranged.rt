@@ -5,7 +5,7 @@ ghost use Rattle.std.specs.List.{AllByRecursion};
 ghost use Rattle.std.specs.Char.{IsScalar};
 ghost use Rattle.std.specs.BTreeMap.{IsOrdered};
 ghost use Rattle.std.specs.HashMap.{IsUnique};
-ghost use Rattle.miniserde_keys.specs.Ranged.{OptionReal};
+ghost use Rattle.miniserde_keys.specs.Ranged.{OptionValid};
 
 mod tuples;
 
@@ -19,27 +19,27 @@ use std::hash::{BuildHasher, Hash};
 /// `String` and each document counts as valid.
 pub trait Ranged {
     // Which values are valid.
-    ghost real: { Self → Type 0 };
+    ghost valid: { Self → Type 0 };
 
     /// Changes nothing. It promises that the value is valid.
     fn ranged(&self)
-        ensures { real self.now };
+        ensures { valid self.now };
 }
 
 impl Ranged for () {
-    ghost real = { λ _. ⊤ };
+    ghost valid = { λ _. ⊤ };
 
     fn ranged(&self) {}
 }
 
 impl Ranged for bool {
-    ghost real = { λ _. ⊤ };
+    ghost valid = { λ _. ⊤ };
 
     fn ranged(&self) {}
 }
 
 impl Ranged for char {
-    ghost real = { IsScalar };
+    ghost valid = { IsScalar };
 
     fn ranged(&self) {
         let _value = *self;
@@ -47,13 +47,13 @@ impl Ranged for char {
 }
 
 impl Ranged for String {
-    ghost real = { λ _. ⊤ };
+    ghost valid = { λ _. ⊤ };
 
     fn ranged(&self) {}
 }
 
 impl<T: StdInteger> Ranged for T {
-    ghost real = { T.in_range };
+    ghost valid = { T.in_range };
 
     fn ranged(&self) {
         // For its clause `in_range`.
@@ -62,7 +62,7 @@ impl<T: StdInteger> Ranged for T {
 }
 
 impl<T: Ranged> Ranged for Box<T> {
-    ghost real = { λ b. T.real b.value };
+    ghost valid = { λ b. T.valid b.value };
 
     fn ranged(&self) {
         T::ranged(self)
@@ -70,7 +70,7 @@ impl<T: Ranged> Ranged for Box<T> {
 }
 
 impl<T: Ranged> Ranged for Option<T> {
-    ghost real = { OptionReal T.real };
+    ghost valid = { OptionValid T.valid };
 
     fn ranged(&self) {
         if let Some(value) = self {
@@ -80,7 +80,7 @@ impl<T: Ranged> Ranged for Option<T> {
 }
 
 impl<A: Ranged, B: Ranged> Ranged for (A, B) {
-    ghost real = { λ p. A.real p.0 × B.real p.1 };
+    ghost valid = { λ p. A.valid p.0 × B.valid p.1 };
 
     fn ranged(&self) {
         self.0.ranged();
@@ -90,7 +90,7 @@ impl<A: Ranged, B: Ranged> Ranged for (A, B) {
 
 // Calls `ranged` for each of the items, and so promises that each is valid.
 fn ranged_all<T: Ranged>(items: &[T])
-    ensures { AllByRecursion T.real items.now }
+    ensures { AllByRecursion T.valid items.now }
 {
     for item in items {
         item.ranged();
@@ -98,7 +98,7 @@ fn ranged_all<T: Ranged>(items: &[T])
 }
 
 impl<T: Ranged> Ranged for Vec<T> {
-    ghost real = { λ v. AllByRecursion T.real v.items };
+    ghost valid = { λ v. AllByRecursion T.valid v.items };
 
     fn ranged(&self) {
         ranged_all(self.as_slice())
@@ -106,7 +106,7 @@ impl<T: Ranged> Ranged for Vec<T> {
 }
 
 impl<T: Ranged> Ranged for VecDeque<T> {
-    ghost real = { λ q. AllByRecursion T.real q.items };
+    ghost valid = { λ q. AllByRecursion T.valid q.items };
 
     fn ranged(&self) {
         for item in self {
@@ -116,7 +116,7 @@ impl<T: Ranged> Ranged for VecDeque<T> {
 }
 
 impl<T: Ranged, const N: usize> Ranged for [T; N] {
-    ghost real = { λ xs. (length xs ≡ N) × AllByRecursion T.real xs };
+    ghost valid = { λ xs. (length xs ≡ N) × AllByRecursion T.valid xs };
 
     fn ranged(&self) {
         ranged_all(self)
@@ -124,7 +124,7 @@ impl<T: Ranged, const N: usize> Ranged for [T; N] {
 }
 
 impl<K: Ranged + Ord, V: Ranged> Ranged for BTreeMap<K, V> {
-    ghost real = { λ m. IsOrdered K.cmp m × AllByRecursion (λ e. K.real e.0 × V.real e.1) m.entries };
+    ghost valid = { λ m. IsOrdered K.cmp m × AllByRecursion (λ e. K.valid e.0 × V.valid e.1) m.entries };
 
     fn ranged(&self) {
         for (key, value) in self {
@@ -135,7 +135,7 @@ impl<K: Ranged + Ord, V: Ranged> Ranged for BTreeMap<K, V> {
 }
 
 impl<K: Ranged + Eq + Hash, V: Ranged, H: BuildHasher> Ranged for HashMap<K, V, H> {
-    ghost real = { λ m. IsUnique K.eq m × AllByRecursion (λ e. K.real e.0 × V.real e.1) m.entries };
+    ghost valid = { λ m. IsUnique K.eq m × AllByRecursion (λ e. K.valid e.0 × V.valid e.1) m.entries };
 
     fn ranged(&self) {
         for (key, value) in self {

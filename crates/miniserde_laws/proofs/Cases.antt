@@ -12,7 +12,7 @@ use Rattle.miniserde_laws.proofs.Fields.{more_names, no_names}
 use Rattle.miniserde_enum.specs.declared.one_of.OneOf.{OneOf}
 use Rattle.miniserde_enum.specs.declared.one_of.OneOf.TheVariants.{First, Later}
 use Rattle.miniserde_enum.specs.Tagging.{Tagging, variant_of_tree, variant_tree, content_by_tagging}
-use Rattle.miniserde_enum.specs.Cases.{CaseReads, UnitReads, DataReads, CaseReal, case_tree, unit_tree, data_tree}
+use Rattle.miniserde_enum.specs.Cases.{CaseReads, UnitReads, DataReads, CaseValid, case_tree, unit_tree, data_tree}
 use Rattle.miniserde_enum.specs.Cases.{UnitFits, DataFits, case_content}
 use Rattle.miniserde_enum.specs.laws.Tagging.{tagging-agrees}
 use Rattle.miniserde_enum.specs.laws.Cases.{if_named, cond-some, later-none, same-name, new-first}
@@ -29,11 +29,11 @@ pub unit-round_trips : (tagging : Tagging) → UnitFits tagging → (n : Name) (
     → RoundTrips (λ (u : Unit {0}). ⊤) (unit_tree tagging n) (UnitReads tagging n) (unit_tree tagging n x)
 unit-round_trips tagging f n x r = ((tt, tt, (tagging-agrees tagging (variant_tree tagging n None) n None).1 (f n)), λ y s e. refl)
 
-module _ {T : Type 0} (real : T → Type 0) (tree : T → Tree) (reads : Tree → T → Type 0)
-    (round_trips : (x : T) → real x → RoundTrips real tree reads (tree x)) (tagging : Tagging)
-    (f : DataFits real tree tagging) where
-  pub data-round_trips : (n : Name) (x : T) → real x
-      → RoundTrips real (data_tree tagging tree n) (DataReads reads tagging n) (data_tree tagging tree n x)
+module _ {T : Type 0} (valid : T → Type 0) (tree : T → Tree) (reads : Tree → T → Type 0)
+    (round_trips : (x : T) → valid x → RoundTrips valid tree reads (tree x)) (tagging : Tagging)
+    (f : DataFits valid tree tagging) where
+  pub data-round_trips : (n : Name) (x : T) → valid x
+      → RoundTrips valid (data_tree tagging tree n) (DataReads reads tagging n) (data_tree tagging tree n x)
   data-round_trips n x r =
       let a = round_trips x r in
       let t = variant_tree tagging n (Some (tree x)) in (
@@ -71,20 +71,20 @@ module _ {T W C D : Type 0} (given : Option Tree → Option C) (one : Tagging �
       (cond-some (bytes_eq k n) (given o) (content x) p).0 q)
       t ((one_agrees tagging n t x).0 a) ((agrees tagging ns d t w).0 b)
 
-  module _ (real : T → Type 0) (tree : Name → T → Tree)
-      (first : (n : Name) (x : T) → real x → RoundTrips real (tree n) (one tagging n) (tree n x))
-      (real_w : W → Type 0) (tree_w : List Name → W → Tree) (count : ℕ)
-      (round_trips : (names : List Name) (w : W) → are_names count names ≡ true → real_w w
-      → RoundTrips real_w (tree_w names) (reads tagging names) (tree_w names w)) where
+  module _ (valid : T → Type 0) (tree : Name → T → Tree)
+      (first : (n : Name) (x : T) → valid x → RoundTrips valid (tree n) (one tagging n) (tree n x))
+      (valid_w : W → Type 0) (tree_w : List Name → W → Tree) (count : ℕ)
+      (round_trips : (names : List Name) (w : W) → are_names count names ≡ true → valid_w w
+      → RoundTrips valid_w (tree_w names) (reads tagging names) (tree_w names w)) where
     pub case-round_trips : (names : List Name) (v : OneOf T W) → are_names (count + 1) names ≡ true
-        → CaseReal real real_w v → RoundTrips (CaseReal real real_w) (case_tree tree tree_w names)
+        → CaseValid valid valid_w v → RoundTrips (CaseValid valid valid_w) (case_tree tree tree_w names)
         (CaseReads (one tagging) (reads tagging) names) (case_tree tree tree_w names v)
     case-round_trips [] v f r = absurd (no_names count f)
     case-round_trips (n ∷ ns) (First x) f r =
         let p = more_names count n ns f in
         let a = first n x r in (
           (First a.0.0, a.0.1, a.0.2),
-          λ v. elim v as (λ v. CaseReal real real_w v → CaseReads (one tagging) (reads tagging) (n ∷ ns) (tree n x)
+          λ v. elim v as (λ v. CaseValid valid valid_w v → CaseReads (one tagging) (reads tagging) (n ∷ ns) (tree n x)
               v → case_tree tree tree_w (n ∷ ns) v ≡ tree n x) [
                 | First y ↦ λ s e. a.1 y s e
                 | Later w ↦ λ s e. absurd (apart n ns (tree n x) a.0.0 w p.0 (names_distinct count ns p.1) a.0.2 e)
@@ -94,7 +94,7 @@ module _ {T W C D : Type 0} (given : Option Tree → Option C) (one : Tagging �
         let p = more_names count n ns f in
         let b = round_trips ns w p.1 r in (
           (Later b.0.0, b.0.1, b.0.2),
-          λ v. elim v as (λ v. CaseReal real real_w v
+          λ v. elim v as (λ v. CaseValid valid valid_w v
               → CaseReads (one tagging) (reads tagging) (n ∷ ns) (tree_w ns w) v
               → case_tree tree tree_w (n ∷ ns) v ≡ tree_w ns w) [
                 | First y ↦ λ s e. absurd (apart n ns (tree_w ns w) y b.0.0 p.0 (names_distinct count ns p.1) e b.0.2)
@@ -105,25 +105,25 @@ module _ {T W C D : Type 0} (given : Option Tree → Option C) (one : Tagging �
 -- ---- the injective tree
 
 -- data with one tree has one content, if the trees are the variants that they are written for
-pub data-same : {T C : Type 0} (tagging : Tagging) (real : T → Type 0) (tree : T → Tree)
-    → DataFits real tree tagging → (content : T → C)
-    → ((x y : T) → real x → real y → tree x ≡ tree y → content x ≡ content y) → (n : Name) (x y : T) → real x
-    → real y → data_tree tagging tree n x ≡ data_tree tagging tree n y → content x ≡ content y
-data-same tagging real tree f content same n x y r s e =
+pub data-same : {T C : Type 0} (tagging : Tagging) (valid : T → Type 0) (tree : T → Tree)
+    → DataFits valid tree tagging → (content : T → C)
+    → ((x y : T) → valid x → valid y → tree x ≡ tree y → content x ≡ content y) → (n : Name) (x y : T) → valid x
+    → valid y → data_tree tagging tree n x ≡ data_tree tagging tree n y → content x ≡ content y
+data-same tagging valid tree f content same n x y r s e =
     let i = same_Some _ _ (sym (f n x r) ∙ ap (variant_of_tree tagging) e ∙ f n y s) in
     same x y r s (same_Some _ _ (ap (λ z. z.1) i))
 
 module _ {T W C D : Type 0} (variant : Tree → Option (Name × Option Tree)) (content : T → C) (content_w : W → D)
-    (real : T → Type 0) (tree : Name → T → Tree)
-    (name : (n : Name) (x : T) → real x → (o : Option Tree) × (variant (tree n x) ≡ Some (n, o)))
-    (first : (n : Name) (x y : T) → real x → real y → tree n x ≡ tree n y → content x ≡ content y)
-    (real_w : W → Type 0) (tree_w : List Name → W → Tree) (count : ℕ)
-    (named : (names : List Name) (w : W) (n : Name) (o : Option Tree) → are_names count names ≡ true → real_w w
+    (valid : T → Type 0) (tree : Name → T → Tree)
+    (name : (n : Name) (x : T) → valid x → (o : Option Tree) × (variant (tree n x) ≡ Some (n, o)))
+    (first : (n : Name) (x y : T) → valid x → valid y → tree n x ≡ tree n y → content x ≡ content y)
+    (valid_w : W → Type 0) (tree_w : List Name → W → Tree) (count : ℕ)
+    (named : (names : List Name) (w : W) (n : Name) (o : Option Tree) → are_names count names ≡ true → valid_w w
     → is_new n names ≡ true → variant (tree_w names w) ≡ Some (n, o) → ⊥)
-    (same : (names : List Name) (v w : W) → are_names count names ≡ true → real_w v → real_w w
+    (same : (names : List Name) (v w : W) → are_names count names ≡ true → valid_w v → valid_w w
     → tree_w names v ≡ tree_w names w → content_w v ≡ content_w w) where
   pub case-named : (names : List Name) (v : OneOf T W) (n : Name) (o : Option Tree)
-      → are_names (count + 1) names ≡ true → CaseReal real real_w v → is_new n names ≡ true
+      → are_names (count + 1) names ≡ true → CaseValid valid valid_w v → is_new n names ≡ true
       → variant (case_tree tree tree_w names v) ≡ Some (n, o) → ⊥
   case-named [] v n o f r h e = no_names count f
   case-named (m ∷ ms) (First x) n o f r h e =
@@ -133,7 +133,7 @@ module _ {T W C D : Type 0} (variant : Tree → Option (Name × Option Tree)) (c
   case-named (m ∷ ms) (Later w) n o f r h e = named ms w n o (more_names count m ms f).1 r (new-first n m ms h).1 e
 
   pub case-same : (names : List Name) (v w : OneOf T W) → are_names (count + 1) names ≡ true
-      → CaseReal real real_w v → CaseReal real real_w w
+      → CaseValid valid valid_w v → CaseValid valid valid_w w
       → case_tree tree tree_w names v ≡ case_tree tree tree_w names w
       → case_content content content_w v ≡ case_content content content_w w
   case-same [] v w f r s e = absurd (no_names count f)
@@ -147,12 +147,12 @@ module _ {T W C D : Type 0} (variant : Tree → Option (Name × Option Tree)) (c
 -- ---- the enum of a variant's value
 
 -- what holds of the values of the variants holds of the enum
-pub enum-round_trips : {V W : Type 0} (real : V → Type 0) (tree : V → Tree) (reads : Tree → V → Type 0)
+pub enum-round_trips : {V W : Type 0} (valid : V → Type 0) (tree : V → Tree) (reads : Tree → V → Type 0)
     (values : W → V) (made : V → W) → ((x : V) → values (made x) ≡ x) → (v : W)
-    → RoundTrips real tree reads (tree (values v))
-    → RoundTrips (λ v. real (values v)) (λ v. tree (values v)) (λ t v. reads t (values v)) (tree (values v))
-enum-round_trips real tree reads values made same v a =
+    → RoundTrips valid tree reads (tree (values v))
+    → RoundTrips (λ v. valid (values v)) (λ v. tree (values v)) (λ t v. reads t (values v)) (tree (values v))
+enum-round_trips valid tree reads values made same v a =
     let is = sym (same a.0.0) in (
-      (made a.0.0, subst real is a.0.1, subst (reads (tree (values v))) is a.0.2),
+      (made a.0.0, subst valid is a.0.1, subst (reads (tree (values v))) is a.0.2),
       λ w q h. a.1 (values w) q h,
     )

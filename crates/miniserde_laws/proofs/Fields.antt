@@ -7,13 +7,13 @@ use Rattle.std.specs.Prelude.{IsSome, MatchOption, option_map, ⊤}
 use Rattle.std.proofs.lemmas.Bool.Decides.{nat_tests}
 use Rattle.miniserde_model.specs.Tree.{Tree, null, Members, member}
 use Rattle.miniserde_model.specs.Normal.{last_of}
-use Rattle.miniserde_keys.specs.Ranged.{OptionReal}
+use Rattle.miniserde_keys.specs.Ranged.{OptionValid}
 use Rattle.miniserde_ser.specs.Trees.{option_tree}
 use Rattle.miniserde_read.specs.Meaning.{Meaning}
 use Rattle.miniserde_read.specs.Meanings.{option_meaning}
 use Rattle.miniserde_read.specs.types.Objects.{Name}
 use Rattle.miniserde_laws.specs.RoundTrip.{RoundTrips}
-use Rattle.miniserde_record.specs.Fields.{other_members, AllNamed, LastMemberReads, count_named, OnceAnd}
+use Rattle.miniserde_record.specs.Fields.{other_members, AllOfName, LastMemberReads, count_named, OnceAnd}
 use Rattle.miniserde_record.specs.Fields.{missing_content, MissingReads}
 use Rattle.miniserde_record.specs.FieldsMeaning.{FieldsMeaning, field_and}
 use Rattle.miniserde_record.specs.Marks.{all_among}
@@ -48,7 +48,7 @@ others_new n (k ∷ ks) (Some t ∷ ts) h = let p = apart n k ks h in rw p.0 (ap
 
 -- so each one that has it means something
 pub all_new : {C : Type 0} (of : Tree → Option C) (n : Name) (ns : List Name) (ts : List (Option Tree))
-    → is_new n ns ≡ true → AllNamed of n (with_names ns ts)
+    → is_new n ns ≡ true → AllOfName of n (with_names ns ts)
 all_new of n [] ts h = tt
 all_new of n (k ∷ ks) [] h = tt
 all_new of n (k ∷ ks) (None ∷ ts) h = all_new of n ks ts (apart n k ks h).1
@@ -85,14 +85,14 @@ once_and : (once : Bool) (n : Name) (ms : Members) (P : Type 0) → OnceAnd once
 once_and false n ms P h = h
 once_and true n ms P h = h.1
 
-module _ {A W : Type 0} (once : Bool) (m : Meaning A) (missing : A → Type 0) (real_a : A → Type 0) (tree : A → Tree)
-    (real_r : W → Type 0) (trees : W → List (Option Tree)) (count : ℕ) (reads_r : List Name → Members → W → Type 0)
-    (first : (v : A) → real_a v → RoundTrips real_a tree m.reads (tree v))
-    (later : (names : List Name) (v : W) → are_names count names ≡ true → real_r v
-    → FieldsRoundTrip real_r trees reads_r names (trees v)) where
+module _ {A W : Type 0} (once : Bool) (m : Meaning A) (missing : A → Type 0) (valid_a : A → Type 0) (tree : A → Tree)
+    (valid_r : W → Type 0) (trees : W → List (Option Tree)) (count : ℕ) (reads_r : List Name → Members → W → Type 0)
+    (first : (v : A) → valid_a v → RoundTrips valid_a tree m.reads (tree v))
+    (later : (names : List Name) (v : W) → are_names count names ≡ true → valid_r v
+    → FieldsRoundTrip valid_r trees reads_r names (trees v)) where
   -- a written field is there, so what a missing one has is not asked for
-  pub round_trips-field : (names : List Name) (v : A × W) → are_names (count + 1) names ≡ true → real_a v.0 × real_r v.1
-      → FieldsRoundTrip (λ (v : A × W). real_a v.0 × real_r v.1) (λ v. Some (tree v.0) ∷ trees v.1)
+  pub round_trips-field : (names : List Name) (v : A × W) → are_names (count + 1) names ≡ true → valid_a v.0 × valid_r v.1
+      → FieldsRoundTrip (λ (v : A × W). valid_a v.0 × valid_r v.1) (λ v. Some (tree v.0) ∷ trees v.1)
       (FieldsInTurn once m.reads m.from_tree missing reads_r) names (Some (tree v.0) ∷ trees v.1)
   round_trips-field [] v f r = absurd (no_names count f)
   round_trips-field (n ∷ ns) v f r =
@@ -123,13 +123,13 @@ module _ {A W : Type 0} (once : Bool) (m : Meaning A) (missing : A → Type 0) (
 
 -- ---- a field that may be left out
 
-module _ {A W : Type 0} (once : Bool) (m : Meaning A) (real_a : A → Type 0) (tree : A → Tree)
-    (real_r : W → Type 0) (trees : W → List (Option Tree)) (count : ℕ) (reads_r : List Name → Members → W → Type 0)
-    (first : (v : Option A) → OptionReal real_a v
-    → RoundTrips (OptionReal real_a) (option_tree tree) (option_meaning m).reads (option_tree tree v))
-    (never : (v : A) → real_a v → tree v ≡ null → ⊥)
-    (later : (names : List Name) (v : W) → are_names count names ≡ true → real_r v
-    → FieldsRoundTrip real_r trees reads_r names (trees v)) where
+module _ {A W : Type 0} (once : Bool) (m : Meaning A) (valid_a : A → Type 0) (tree : A → Tree)
+    (valid_r : W → Type 0) (trees : W → List (Option Tree)) (count : ℕ) (reads_r : List Name → Members → W → Type 0)
+    (first : (v : Option A) → OptionValid valid_a v
+    → RoundTrips (OptionValid valid_a) (option_tree tree) (option_meaning m).reads (option_tree tree v))
+    (never : (v : A) → valid_a v → tree v ≡ null → ⊥)
+    (later : (names : List Name) (v : W) → are_names count names ≡ true → valid_r v
+    → FieldsRoundTrip valid_r trees reads_r names (trees v)) where
   -- nothing is written of `None`, which is what a missing field has
   abbrev missing : Option A → Type 0
   missing v = MissingReads (option_meaning m) None (Some None) v
@@ -137,16 +137,17 @@ module _ {A W : Type 0} (once : Bool) (m : Meaning A) (real_a : A → Type 0) (t
   abbrev reads : List Name → Members → Option A × W → Type 0
   reads ns ms v = FieldsInTurn once (option_meaning m).reads (option_meaning m).from_tree missing reads_r ns ms v
 
-  pub round_trips-omitted : (names : List Name) (v : Option A × W) → are_names (count + 1) names ≡ true → OptionReal real_a v.0 × real_r v.1
-      → FieldsRoundTrip (λ (v : Option A × W). OptionReal real_a v.0 × real_r v.1)
+  pub round_trips-omitted : (names : List Name) (v : Option A × W) → are_names (count + 1) names ≡ true
+      → OptionValid valid_a v.0 × valid_r v.1
+      → FieldsRoundTrip (λ (v : Option A × W). OptionValid valid_a v.0 × valid_r v.1)
       (λ v. option_map tree v.0 ∷ trees v.1) reads names (option_map tree v.0 ∷ trees v.1)
   round_trips-omitted [] v f r = absurd (no_names count f)
   round_trips-omitted (n ∷ ns) (Some x, w) f r =
-      let a = round_trips-field once (option_meaning m) missing (OptionReal real_a) (option_tree tree) real_r trees
+      let a = round_trips-field once (option_meaning m) missing (OptionValid valid_a) (option_tree tree) valid_r trees
       count reads_r first later (n ∷ ns) (Some x, w) f r in
       (a.0, λ u s e. written u s (a.1 u s e))
     where
-      written : (u : Option A × W) → OptionReal real_a u.0 × real_r u.1 → Some (option_tree tree u.0) ∷ trees u.1
+      written : (u : Option A × W) → OptionValid valid_a u.0 × valid_r u.1 → Some (option_tree tree u.0) ∷ trees u.1
           ≡ Some (tree x) ∷ trees w → option_map tree u.0 ∷ trees u.1 ≡ Some (tree x) ∷ trees w
       written (None, u) s e = absurd (never x r.0 (sym (cc)))
       written (Some y, u) s e = e
@@ -178,14 +179,14 @@ module _ {A W : Type 0} (once : Bool) (m : Meaning A) (real_a : A → Type 0) (t
 -- ---- field by field in turn, and each by itself
 
 module _ {A W : Type 0} (once : Bool) (given : Option Tree) (m : Meaning A) (absent : Option A) (n : FieldsMeaning W)
-    (real : A × W → Type 0) (trees : A × W → List (Option Tree)) (names : List Name) (ts : List (Option Tree)) where
+    (valid : A × W → Type 0) (trees : A × W → List (Option Tree)) (names : List Name) (ts : List (Option Tree)) where
   -- the members mean the values, the field by what it is and the later ones by what it leaves
   abbrev InTurn : List Name → Members → A × W → Type 0
   InTurn = FieldsInTurn once m.reads m.from_tree (MissingReads m given absent) (n.reads [])
 
   -- what is read back in turn is read back by each field itself
-  pub round_trips-alone : FieldsRoundTrip real trees InTurn names ts
-      → FieldsRoundTrip real trees ((field_and once given m absent n).reads []) names ts
+  pub round_trips-alone : FieldsRoundTrip valid trees InTurn names ts
+      → FieldsRoundTrip valid trees ((field_and once given m absent n).reads []) names ts
   round_trips-alone h =
       let f = field_and once given m absent n in
       let turn = field-in_turn once m (missing_content m given absent) (MissingReads m given absent)

@@ -5,9 +5,9 @@ use Rattle.miniserde_model.specs.Tree.{Tree, list}
 use Rattle.miniserde_ser.specs.Trees.{trees_of}
 
 -- by the law of the type of the items
-module _ {T C : Type 0} (real : T → Type 0) (f : T → Tree) (content : T → C)
-    (lossless : (v w : T) → real v → real w → f v ≡ f w → content v ≡ content w) where
-  one_each : (xs ys : List T) → AllByRecursion real xs → AllByRecursion real ys → trees_of f xs ≡ trees_of f ys
+module _ {T C : Type 0} (valid : T → Type 0) (f : T → Tree) (content : T → C)
+    (lossless : (v w : T) → valid v → valid w → f v ≡ f w → content v ≡ content w) where
+  one_each : (xs ys : List T) → AllByRecursion valid xs → AllByRecursion valid ys → trees_of f xs ≡ trees_of f ys
       → map content xs ≡ map content ys
   one_each [] [] p q e = refl
   one_each [] (y ∷ ys) p q e = cc
@@ -17,6 +17,6 @@ module _ {T C : Type 0} (real : T → Type 0) (f : T → Tree) (content : T → 
       let rest : trees_of f xs ≡ trees_of f ys = cc in
       rw (lossless x y p.0 q.0 first, one_each xs ys p.1 q.1 rest) refl
 
-  pub one_list : (xs ys : List T) → AllByRecursion real xs → AllByRecursion real ys
+  pub one_list : (xs ys : List T) → AllByRecursion valid xs → AllByRecursion valid ys
       → list (trees_of f xs) ≡ list (trees_of f ys) → map content xs ≡ map content ys
   one_list xs ys p q e = let same : trees_of f xs ≡ trees_of f ys = cc in one_each xs ys p q same

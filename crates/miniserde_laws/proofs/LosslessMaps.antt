@@ -34,15 +34,15 @@ either None (Some x) p q = q x refl
 either (Some x) b p q = sym (p x refl)
 
 module _ {K V C : Type 0} (read : Name → Option Key) (code : Key → Key) (content : K → Key) (text : K → Name)
-    (f : V → Tree) (value : V → C) (key_real : K → Type 0) (real : V → Type 0)
-    (back : ReadsBack key_real content code read text)
+    (f : V → Tree) (value : V → C) (key_valid : K → Type 0) (valid : V → Type 0)
+    (back : ReadsBack key_valid content code read text)
     (injective : (a b : K) → code (content a) ≡ code (content b) → content a ≡ content b)
-    (lossless : (v w : V) → real v → real w → f v ≡ f w → value v ≡ value w) where
+    (lossless : (v w : V) → valid v → valid w → f v ≡ f w → value v ≡ value w) where
   abbrev pub code_of : K → Key
   code_of k = code (content k)
 
   abbrev Part : K × V → Type 0
-  Part e = key_real e.0 × real e.1
+  Part e = key_valid e.0 × valid e.1
 
   abbrev Alone : List (K × V) → Type 0
   Alone es = IsDistinct (same code_of) (keys_of es)
@@ -55,7 +55,7 @@ module _ {K V C : Type 0} (read : Name → Option Key) (code : Key → Key) (con
   part es e p c = All-contains Part es e (All-from_recursion Part es p) c
 
   -- keys with one text have one code
-  one_code : (a b : K) → key_real a → key_real b → text a ≡ text b → code_of a ≡ code_of b
+  one_code : (a b : K) → key_valid a → key_valid b → text a ≡ text b → code_of a ≡ code_of b
   one_code a b p q e =
       let c = back a p in
       let d = back b q in
@@ -106,10 +106,10 @@ module _ {K V C : Type 0} (read : Name → Option Key) (code : Key → Key) (con
       ∙ at-contained code_of (code_of e.0) es e d c refl) in
       (g.0, g.1, one_code g.0.0 e.0 there.0 r.0 g.2, lossless g.0.1 e.1 there.1 r.1 (g.3 ∙ sym o.3 ∙ ap (λ z. f z.1) own))
 
-  looked_like : (es fs : List (K × V)) → AllByRecursion Part es → AllByRecursion Part fs → Alone es → Alone fs
+  like_found : (es fs : List (K × V)) → AllByRecursion Part es → AllByRecursion Part fs → Alone es → Alone fs
       → Alike es fs → (q : Key) (x : Key × C) → map_content code content value es q ≡ Some x
       → map_content code content value fs q ≡ Some x
-  looked_like es fs p r d b a q x s =
+  like_found es fs p r d b a q x s =
       elim (entry_at code_of q es)
       as (λ o. entry_at code_of q es ≡ o → option_map {U = Key × C} (λ e. (content e.0, value e.1)) o ≡ Some x
       → map_content code content value fs q ≡ Some x) [
@@ -120,11 +120,11 @@ module _ {K V C : Type 0} (read : Name → Option Key) (code : Key → Key) (con
             rw (at-contained code_of q fs g.0 b g.1 (g.2 ∙ m.1), injective g.0.0 e.0 g.2, g.3) s
       ] refl s
 
-  one_looked : (es fs : List (K × V)) → AllByRecursion Part es → AllByRecursion Part fs → Alone es → Alone fs
+  same_content : (es fs : List (K × V)) → AllByRecursion Part es → AllByRecursion Part fs → Alone es → Alone fs
       → Alike es fs → map_content code content value es ≡ map_content code content value fs
-  one_looked es fs p r d b a =
+  same_content es fs p r d b a =
       λ i q. either (map_content code content value es q) (map_content code content value fs q)
-      (looked_like es fs p r d b a q) (looked_like fs es r p b d (λ n. sym (a n)) q) i
+      (like_found es fs p r d b a q) (like_found fs es r p b d (λ n. sym (a n)) q) i
 
   -- ---- ordered by their keys
 
@@ -138,7 +138,7 @@ module _ {K V C : Type 0} (read : Name → Option Key) (code : Key → Key) (con
         → map_content code content value es ≡ map_content code content value fs
     one_sorted es fs p q e =
         let same : members_of text f es ≡ members_of text f fs = cc in
-        one_looked es fs p.1 q.1 (sorted_alone es p.0) (sorted_alone fs q.0) (λ n. ap (last_of n) same)
+        same_content es fs p.1 q.1 (sorted_alone es p.0) (sorted_alone fs q.0) (λ n. ap (last_of n) same)
 
   -- ---- hashed
 
@@ -152,6 +152,6 @@ module _ {K V C : Type 0} (read : Name → Option Key) (code : Key → Key) (con
         value fs
     one_hashed es fs p q e =
         let same : in_order (members_of text f es) ≡ in_order (members_of text f fs) = cc in
-        one_looked es fs p.1 q.1 (hashed_alone es p.0) (hashed_alone fs q.0)
+        same_content es fs p.1 q.1 (hashed_alone es p.0) (hashed_alone fs q.0)
         (λ n. sym (last_in_order n (members_of text f es)) ∙ ap (last_of n) same ∙ last_in_order n
         (members_of text f fs))

@@ -28,16 +28,16 @@ use Rattle.miniserde_laws.proofs.Sorted.{sorted_same}
 use Rattle.miniserde_laws.proofs.Hashed.{hashed_same, taken_in_order, met_other, met_first}
 
 module _ {K V C : Type 0} (read : Name → Option Key) (code : Key → Key) (content : K → Key) (text : K → List ℕ)
-    (key_real : K → Type 0) (real : V → Type 0) (f : V → Tree) (of : Tree → Option C) (R : Tree → V → Type 0)
-    (gives : (t : Tree) (v : V) → R t v → IsSome (of t)) (back : ReadsBack key_real content code read text)
+    (key_valid : K → Type 0) (valid : V → Type 0) (f : V → Tree) (of : Tree → Option C) (R : Tree → V → Type 0)
+    (gives : (t : Tree) (v : V) → R t v → IsSome (of t)) (back : ReadsBack key_valid content code read text)
     (one_text : (a b : K) → code (content a) ≡ code (content b) → text a ≡ text b)
-    (round_trips : (v : V) → real v → RoundTrips real f R (f v)) where
+    (round_trips : (v : V) → valid v → RoundTrips valid f R (f v)) where
   abbrev code_of : K → Key
   code_of k = code (content k)
 
   -- each key and each value is one that Rust has
   abbrev Parts : List (K × V) → Type 0
-  Parts es = AllByRecursion (λ e. key_real e.0 × real e.1) es
+  Parts es = AllByRecursion (λ e. key_valid e.0 × valid e.1) es
 
   -- the codes are distinct
   abbrev Alone : List (K × V) → Type 0
@@ -58,7 +58,7 @@ module _ {K V C : Type 0} (read : Name → Option Key) (code : Key → Key) (con
   parts_read [] h = tt
   parts_read (e ∷ es) h = (((back e.0 h.0.0).1, (round_trips e.1 h.0.1).0.1), parts_read es h.1)
 
-  key_parts : (es : List (K × V)) → Parts es → AllByRecursion (λ e. key_real e.0) es
+  key_parts : (es : List (K × V)) → Parts es → AllByRecursion (λ e. key_valid e.0) es
   key_parts [] h = tt
   key_parts (e ∷ es) h = (h.0.0, key_parts es h.1)
 
@@ -123,8 +123,8 @@ module _ {K V C : Type 0} (read : Name → Option Key) (code : Key → Key) (con
   -- ---- each entry that the members mean is written as they are
 
   -- where one member was met
-  one_written : (q : Key) (e : K × V) (k : Key) → real e.1 → code_of e.0 ≡ q → (o : Option (K × V))
-      → ((g : K × V) → o ≡ Some g → real g.1 × (code_of g.0 ≡ q)) → EntryFits content R (Some (k, f e.1)) o
+  one_written : (q : Key) (e : K × V) (k : Key) → valid e.1 → code_of e.0 ≡ q → (o : Option (K × V))
+      → ((g : K × V) → o ≡ Some g → valid g.1 × (code_of g.0 ≡ q)) → EntryFits content R (Some (k, f e.1)) o
       → Some (text e.0, f e.1) ≡ written code_of text f o
   one_written q e k i at None r m = absurd m
   one_written q e k i at (Some g) r m =
@@ -132,7 +132,7 @@ module _ {K V C : Type 0} (read : Name → Option Key) (code : Key → Key) (con
       rw (one_text e.0 g.0 (at ∙ sym own.1), (round_trips e.1 i).1 g.1 own.0 m.1) refl
 
   met_written : (q : Key) (es : List (K × V)) → Parts es → Alone es → (o : Option (K × V))
-      → ((g : K × V) → o ≡ Some g → real g.1 × (code_of g.0 ≡ q))
+      → ((g : K × V) → o ≡ Some g → valid g.1 × (code_of g.0 ≡ q))
       → EntryFits content R (first_and_last_at read code q (members_of text f es)) o
       → written code_of text f (entry_at code_of q es) ≡ written code_of text f o
   unfolding IsDistinct
@@ -159,10 +159,10 @@ module _ {K V C : Type 0} (read : Name → Option Key) (code : Key → Key) (con
   met_agree : (es fs : List (K × V)) → Parts es → Alone es → Parts fs → Met es fs → Agree code_of text f es fs
   met_agree es fs h d p m q = met_written q es h d (entry_at code_of q fs) go (m q)
     where
-      go : (g : K × V) → entry_at code_of q fs ≡ Some g → real g.1 × (code_of g.0 ≡ q)
+      go : (g : K × V) → entry_at code_of q fs ≡ Some g → valid g.1 × (code_of g.0 ≡ q)
       go g e =
           let c = found code_of q fs g e in
-          ((All-contains (λ e. key_real e.0 × real e.1) fs g (All-from_recursion _ fs p) c.0).1, c.1)
+          ((All-contains (λ e. key_valid e.0 × valid e.1) fs g (All-from_recursion _ fs p) c.0).1, c.1)
 
   -- ---- maps in the order of their keys
 
@@ -253,7 +253,7 @@ module _ {K V C : Type 0} (read : Name → Option Key) (code : Key → Key) (con
 
     -- their names are distinct too
     names_apart : (es : List (K × V)) → Unique es × Parts es → IsDistinct bytes_eq (names text f es)
-    names_apart es r = distinct_names eq key_real content code read text alike back es (key_parts es r.1) r.0
+    names_apart es r = distinct_names eq key_valid content code read text alike back es (key_parts es r.1) r.0
 
     pub round_trips-hashed : {M : Type 0} (entries : M → List (K × V)) (with : M → List (K × V) → M)
         → ((m : M) (es : List (K × V)) → entries (with m es) ≡ es) → (m : M) → Unique (entries m)

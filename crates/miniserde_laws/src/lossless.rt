@@ -15,7 +15,7 @@ use std::hash::{BuildHasher, Hash};
 pub trait Lossless: RoundTrip {
     /// Does nothing. It promises that two valid values with the same tree have the same content.
     fn lossless()
-        ensures { (v w : Self) → Self.real v → Self.real w → Self.tree v ≡ Self.tree w
+        ensures { (v w : Self) → Self.valid v → Self.valid w → Self.tree v ≡ Self.tree w
             → Self.means.content v ≡ Self.means.content w };
 }
 
@@ -24,7 +24,7 @@ pub trait Lossless: RoundTrip {
 pub trait NeverNull: RoundTrip {
     /// Does nothing. It promises that no valid value is written as `null`.
     fn never_null()
-        ensures { (v : Self) → Self.real v → Self.tree v ≡ null → ⊥ };
+        ensures { (v : Self) → Self.valid v → Self.tree v ≡ null → ⊥ };
 }
 
 /// Does nothing. It promises that the tree of a value means that value, and that all values that it means have the

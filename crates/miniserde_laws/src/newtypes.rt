@@ -27,7 +27,7 @@ pub trait Transparent: Sized {
 /// Does nothing. It promises that the tree of a valid newtype without a check means a valid one, and that each valid
 /// one that it means has that tree.
 pub fn transparent_round_trips<T: RoundTrip, N: Transparent<Inner = T>>()
-    ensures { (v : N) → T.real (N.inner v) → RoundTrips (λ w. T.real (N.inner w)) (λ w. T.tree (N.inner w))
+    ensures { (v : N) → T.valid (N.inner v) → RoundTrips (λ w. T.valid (N.inner w)) (λ w. T.tree (N.inner w))
         (λ t w. T.means.reads t (N.inner w)) (T.tree (N.inner v)) }
 {
     T::round_trips()
@@ -36,8 +36,8 @@ pub fn transparent_round_trips<T: RoundTrip, N: Transparent<Inner = T>>()
 /// Does nothing. It promises that the tree of a valid newtype with a check means a valid one, and that each valid one
 /// that it means has that tree.
 pub fn checked_round_trips<T: Lossless, N: Checked<Inner = T>>()
-    ensures { (v : N) → T.real (N.inner v) × (N.accepts (N.means.content (N.inner v)) ≡ true)
-        → RoundTrips (λ w. T.real (N.inner w) × (N.accepts (N.means.content (N.inner w)) ≡ true))
+    ensures { (v : N) → T.valid (N.inner v) × (N.accepts (N.means.content (N.inner v)) ≡ true)
+        → RoundTrips (λ w. T.valid (N.inner w) × (N.accepts (N.means.content (N.inner w)) ≡ true))
         (λ w. T.tree (N.inner w)) (checked_meaning N.means N.accepts N.inner).reads (T.tree (N.inner v)) }
 {
     T::round_trips();
@@ -46,8 +46,8 @@ pub fn checked_round_trips<T: Lossless, N: Checked<Inner = T>>()
 
 /// Does nothing. It promises that two valid newtypes with a check that have the same tree have the same content.
 pub fn checked_lossless<T: Lossless, N: Checked<Inner = T>>()
-    ensures { (v w : N) → T.real (N.inner v) × (N.accepts (N.means.content (N.inner v)) ≡ true)
-        → T.real (N.inner w) × (N.accepts (N.means.content (N.inner w)) ≡ true) → T.tree (N.inner v) ≡ T.tree (N.inner w)
+    ensures { (v w : N) → T.valid (N.inner v) × (N.accepts (N.means.content (N.inner v)) ≡ true)
+        → T.valid (N.inner w) × (N.accepts (N.means.content (N.inner w)) ≡ true) → T.tree (N.inner v) ≡ T.tree (N.inner w)
         → (checked_meaning N.means N.accepts N.inner).content v
         ≡ (checked_meaning N.means N.accepts N.inner).content w }
 {

@@ -18,8 +18,8 @@ pub trait RoundTrip: Ranged + Serialize + FromJson {
     /// Does nothing. It promises that the tree of each valid value means some valid value, and that each valid value
     /// that the tree means has this same tree.
     fn round_trips()
-        ensures { (v : Self) → Self.real v
-            → RoundTrips Self.real Self.tree Self.means.reads (Self.tree v) };
+        ensures { (v : Self) → Self.valid v
+            → RoundTrips Self.valid Self.tree Self.means.reads (Self.tree v) };
 }
 
 /// Reads one JSON value that spans the whole text, as `from_str` does (RFC 8259, section 2). If the
@@ -28,13 +28,13 @@ pub trait RoundTrip: Ranged + Serialize + FromJson {
 pub fn read_back<T: RoundTrip>(alloc: Global, text: &str) -> Result<T>
     // The text spells a tree that means the value, which is valid.
     ensures ok { IfOk result (λ read. (t : Tree) × IsJson text.now t × T.means.reads t read) }
-    ensures valid { IfOk result (λ read. T.real read) }
+    ensures valid { IfOk result (λ read. T.valid read) }
 
     // If the text spells the tree of a valid value, the result has that tree.
-    ensures same { IfOk result (λ read. (v : T) → T.real v → IsJson text.now (T.tree v) → T.tree read ≡ T.tree v) }
+    ensures same { IfOk result (λ read. (v : T) → T.valid v → IsJson text.now (T.tree v) → T.tree read ≡ T.tree v) }
 
     // If the result is `Invalid`, the text spells the tree of no valid value.
-    ensures stored { result ≡ Err Error.Invalid → (v : T) → T.real v → IsJson text.now (T.tree v) → ⊥ }
+    ensures stored { result ≡ Err Error.Invalid → (v : T) → T.valid v → IsJson text.now (T.tree v) → ⊥ }
 
     // If the result is `Invalid`, no tree that the text spells means a value.
     ensures invalid { result ≡ Err Error.Invalid → (t : Tree) → IsJson text.now t
@@ -50,7 +50,7 @@ pub fn read_back<T: RoundTrip>(alloc: Global, text: &str) -> Result<T>
 /// valid values with that tree have the same content, the result has it too.
 pub fn write_and_read<T: RoundTrip>(alloc: Global, value: &T) -> Result<T>
     ensures same { IfOk result (λ v. T.tree v ≡ T.tree value.now) }
-    ensures itself { ((v : T) → T.real v → T.tree v ≡ T.tree value.now
+    ensures itself { ((v : T) → T.valid v → T.tree v ≡ T.tree value.now
         → T.means.content v ≡ T.means.content value.now)
         → IfOk result (λ v. T.means.content v ≡ T.means.content value.now) }
     ensures memory { result ≡ Err Error.Invalid → ⊥ }

@@ -18,15 +18,15 @@ use miniserde_ser::ser::Serialize;
 /// contents differ, and never have the tree `null`.
 pub trait Scalar: Ranged + Serialize + FromJson {
     // The tree of a valid value means a valid value, and each valid value that it means has that tree.
-    ghost round_trips: { (v : Self) → Self.real v
-        → RoundTrips Self.real Self.tree Self.means.reads (Self.tree v) };
+    ghost round_trips: { (v : Self) → Self.valid v
+        → RoundTrips Self.valid Self.tree Self.means.reads (Self.tree v) };
 
     // Two valid values with the same tree have the same content.
-    ghost same: { (v w : Self) → Self.real v → Self.real w → Self.tree v ≡ Self.tree w
+    ghost same: { (v w : Self) → Self.valid v → Self.valid w → Self.tree v ≡ Self.tree w
         → Self.means.content v ≡ Self.means.content w };
 
     // No valid value is written as `null`.
-    ghost not_null: { (v : Self) → Self.real v → Self.tree v ≡ null → ⊥ };
+    ghost not_null: { (v : Self) → Self.valid v → Self.tree v ≡ null → ⊥ };
 }
 
 impl Scalar for bool {

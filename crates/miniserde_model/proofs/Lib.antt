@@ -1,4 +1,4 @@
-pub mod Runs
+pub mod LongestRuns
 pub mod Strings
 pub mod Numbers
 pub mod Prefixes
@@ -10,7 +10,7 @@ pub mod Accepted
 pub mod Shortest
 pub mod Canonical
 pub mod Lookups
-pub mod Reading
+pub mod TreeEvents
 pub mod ReadBack
 pub mod OneNormal
 pub mod Distinct

@@ -6,7 +6,7 @@ use Rattle.std.proofs.lemmas.Bool.Decides.{nat_tests}
 use Rattle.miniserde_model.specs.Tree.{Tree}
 use Rattle.miniserde_model.specs.Number.{IsDigit, IsInt, IsMinus, IsFraction, IsSign, IsExponent, IsNumberText, IsNumber, leaf}
 use Rattle.miniserde_model.specs.Bytes.{is_number_byte, StopsAt}
-use Rattle.miniserde_model.proofs.Runs.{AllPass, same_run, pass_append}
+use Rattle.miniserde_model.proofs.LongestRuns.{AllPass, same_run, pass_append}
 use Rattle.miniserde_model.proofs.Prefixes.{Prefix}
 
 digit_byte : (c : ℕ) → IsDigit c → is_number_byte c ≡ true

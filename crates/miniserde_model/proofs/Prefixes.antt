@@ -7,7 +7,7 @@ use Rattle.std.proofs.lemmas.Bool.Decides.{nat_tests}
 use Rattle.miniserde_model.specs.Whitespace.{IsSpace, IsWhitespace}
 use Rattle.miniserde_model.specs.Value.{Spaced, Named, Then, Between}
 use Rattle.miniserde_model.specs.Bytes.{is_space, StopsAt, is_number_byte}
-use Rattle.miniserde_model.proofs.Runs.{AllPass, same_run}
+use Rattle.miniserde_model.proofs.LongestRuns.{AllPass, same_run}
 
 -- a byte that may stand behind a value and belong to it, or to the space around it
 abbrev pub goes_on : ℕ → Bool

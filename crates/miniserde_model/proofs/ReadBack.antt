@@ -439,9 +439,9 @@ mutual
   find_more_members n _ st b h p = absurd p
 
 -- after a value outside all containers, the text spells no event and is whitespace
-pub nothing_left : (es : List Step) (b : List ℕ) → Spells after es [] b → (es ≡ []) × IsWhitespace b
-nothing_left [] b p = (refl, p)
-nothing_left (e ∷ es) b p = absurd (go e p)
+pub no_events_left : (es : List Step) (b : List ℕ) → Spells after es [] b → (es ≡ []) × IsWhitespace b
+no_events_left [] b p = (refl, p)
+no_events_left (e ∷ es) b p = absurd (go e p)
   where
     go : (d : Step) → Spells after (d ∷ es) [] b → ⊥
     go element q = q
@@ -451,7 +451,7 @@ nothing_left (e ∷ es) b p = absurd (go e p)
 pub spells_json : (es : List Step) (b : List ℕ) → Spells due es [] b → (t : Tree) × (es ≡ events t) × IsJson b t
 spells_json es b p =
     let v = find_value (length es) es [] b (omega arith) p in
-    let end = nothing_left v.left v.rest v.is_rest in (
+    let end = no_events_left v.left v.rest v.is_rest in (
       v.found,
       v.is ∙ ap (λ z. events v.found ++ z) end.0 ∙ append-nil (events v.found),
       record {

@@ -18,11 +18,11 @@ use Rattle.miniserde_model.specs.declared.kind.Kind.{Kind}
 use Rattle.miniserde_model.specs.declared.kind.Kind.TheVariants.{Seq}
 use Rattle.miniserde_model.specs.private.Reading.{due, first, after, StandsThen, Spells}
 use Rattle.miniserde_model.specs.Examples.{RefusedTexts}
-use Rattle.miniserde_model.proofs.Runs.{AllPass, same_run}
+use Rattle.miniserde_model.proofs.LongestRuns.{AllPass, same_run}
 use Rattle.miniserde_model.proofs.Prefixes.{whitespace_passes, space_ends_number}
 use Rattle.miniserde_model.proofs.Numbers.{number_pass}
-use Rattle.miniserde_model.proofs.Unique.{kind, kind_of_byte, kind_below, known_no_space, value_head, value_heads, same_value}
-use Rattle.miniserde_model.proofs.Reading.{front_byte_stops, json_spells}
+use Rattle.miniserde_model.proofs.Unique.{kind, leading_kind, kind_below, known_no_space, value_head, value_heads, same_value}
+use Rattle.miniserde_model.proofs.TreeEvents.{front_byte_stops, json_spells}
 use Rattle.miniserde_model.proofs.ReadBack.{find_value}
 use Rattle.miniserde_model.proofs.Examples.{numeral_1, numeral_2}
 
@@ -33,14 +33,14 @@ record AtFront (c : ℕ) (r : List ℕ) (t : Tree) : Type 0 where
   text : c ∷ r ≡ value ++ space
   is_value : IsValue t value
   is_space : IsWhitespace space
-  of_kind : kind_of_byte c ≡ kind t
+  of_kind : leading_kind c ≡ kind t
 
-value_kind : (t : Tree) (c : ℕ) (r v x : List ℕ) → IsValue t v → c ∷ r ≡ v ++ x → kind_of_byte c ≡ kind t
+value_kind : (t : Tree) (c : ℕ) (r v x : List ℕ) → IsValue t v → c ∷ r ≡ v ++ x → leading_kind c ≡ kind t
 value_kind t c r v x p e =
     let h = value_head t v p in
     let f : ◌≡◌ {A = List ℕ} (c ∷ r) (h.byte ∷ (h.rest ++ x)) = e ∙ ap (λ z. z ++ x) h.is in
     let same : c ≡ h.byte = cc in
-    ap kind_of_byte same ∙ h.of_kind
+    ap leading_kind same ∙ h.of_kind
 
 at_front : (c : ℕ) (r : List ℕ) (t : Tree) → is_space c ≡ false → IsJson (c ∷ r) t → AtFront c r t
 at_front c r t s p =
@@ -57,7 +57,7 @@ at_front c r t s p =
     }
 
 -- a text whose first byte is no space and begins no value
-no_value : (c : ℕ) (r : List ℕ) → is_space c ≡ false → kind_of_byte c ≡ 7 → HasNoTree (c ∷ r)
+no_value : (c : ℕ) (r : List ℕ) → is_space c ≡ false → leading_kind c ≡ 7 → HasNoTree (c ∷ r)
 no_value c r s k t p = let f = at_front c r t s p in omega (arith, k, f.of_kind, kind_below t)
 
 no_text : HasNoTree []
@@ -74,7 +74,7 @@ number_of (num x) b k p = p.0
 number_of _ b k p = absurd (omega arith)
 
 -- a text of number bytes alone that has a tree is a number text
-whole_number : (c : ℕ) (r : List ℕ) (t : Tree) → kind_of_byte c ≡ 3 → AllPass is_number_byte (c ∷ r)
+whole_number : (c : ℕ) (r : List ℕ) (t : Tree) → leading_kind c ≡ 3 → AllPass is_number_byte (c ∷ r)
     → IsJson (c ∷ r) t → IsNumberText (c ∷ r)
 whole_number c r t k h p =
     let f = at_front c r t (known_no_space c (omega (arith, k))) p in
@@ -152,7 +152,7 @@ front_byte c d r K hc hd p =
     let rest : r ≡ p.rest = cc in
     (cc, subst K (sym rest) p.is_rest)
 
-no_value_due : (c : ℕ) (r : List ℕ) (es : List Step) (st : List Kind) → is_space c ≡ false → kind_of_byte c ≡ 7
+no_value_due : (c : ℕ) (r : List ℕ) (es : List Step) (st : List Kind) → is_space c ≡ false → leading_kind c ≡ 7
     → Spells due es st (c ∷ r) → ⊥
 no_value_due c r es st s k p =
     let v = find_value (length es) es st (c ∷ r) (omega arith) p in

@@ -13,7 +13,7 @@ use Rattle.miniserde_model.specs.Whitespace.{IsWhitespace}
 use Rattle.miniserde_model.specs.Value.{Spaced, Named, Then, word, IsValue, AreElements, AreMoreElements}
 use Rattle.miniserde_model.specs.Value.{AreMembers, AreMoreMembers, IsJson}
 use Rattle.miniserde_model.specs.Bytes.{StopsAt, is_number_byte}
-use Rattle.miniserde_model.proofs.Runs.{same_run}
+use Rattle.miniserde_model.proofs.LongestRuns.{same_run}
 use Rattle.miniserde_model.proofs.Numbers.{same_number}
 use Rattle.miniserde_model.proofs.Strings.{same_string}
 use Rattle.miniserde_model.specs.Bytes.{is_space}
@@ -34,8 +34,8 @@ kind (list ts) = 5
 kind (members ms) = 6
 
 -- the kind of the trees whose text begins with the byte, or 7 if there are none
-abbrev pub kind_of_byte : ℕ → ℕ
-kind_of_byte c = cond (c == 110) 0
+abbrev pub leading_kind : ℕ → ℕ
+leading_kind c = cond (c == 110) 0
     (cond (c == 116) 1 (cond (c == 102) 1
     (cond ((c == 45) || (nat_le 48 c && nat_le c 57)) 3
     (cond (c == 34) 4 (cond (c == 91) 5 (cond (c == 123) 6 7))))))
@@ -45,7 +45,7 @@ pub record Head (b : List ℕ) (k : ℕ) : Type 0 where
   pub byte : ℕ
   pub rest : List ℕ
   pub is : b ≡ byte ∷ rest
-  pub of_kind : kind_of_byte byte ≡ k
+  pub of_kind : leading_kind byte ≡ k
 
 whole_head : (x rest : List ℕ) → IsInt x → Head (x ++ rest) 3
 whole_head [] rest h = absurd h
@@ -88,37 +88,37 @@ kind_below (list ts) = omega arith
 kind_below (members ms) = omega arith
 
 -- a byte that begins values is no whitespace
-pub known_no_space : (c : ℕ) → kind_of_byte c < 7 → is_space c ≡ false
+pub known_no_space : (c : ℕ) → leading_kind c < 7 → is_space c ≡ false
 known_no_space c h = grind (arith, nat_tests)
 
 -- a text that begins with a byte of a kind below 7 begins with no whitespace
 pub head_no_space : (b rest : List ℕ) (k : ℕ) → k < 7 → Head b k → StopsAt is_space (b ++ rest)
 head_no_space b rest k l h = rw (h.is) (known_no_space h.byte (omega (arith, h.of_kind)))
 
-head_not : (z : ℕ) {k : ℕ} {b : List ℕ} (rest : List ℕ) {x : List ℕ} → kind_of_byte z ≡ 7 → Head b k → k < 7
+head_not : (z : ℕ) {k : ℕ} {b : List ℕ} (rest : List ℕ) {x : List ℕ} → leading_kind z ≡ 7 → Head b k → k < 7
     → b ++ rest ≡ z ∷ x → ⊥
 head_not z rest {x = x} hz h l e =
     let f : ◌≡◌ {A = List ℕ} (h.byte ∷ (h.rest ++ rest)) (z ∷ x) = ap (λ a. a ++ rest) (sym h.is) ∙ e in
     let same : h.byte ≡ z = cc in
-    omega (arith, h.of_kind, ap kind_of_byte same, hz)
+    omega (arith, h.of_kind, ap leading_kind same, hz)
 
 -- no text that spells a tree as a value begins with whitespace
 pub value_heads : (t : Tree) → Heads (IsValue t)
 value_heads t = record { no_space = λ b rest p. head_no_space b rest (kind t) (kind_below t) (value_head t b p) }
 
-value_not : (t : Tree) (z : ℕ) → kind_of_byte z ≡ 7 → BeginsNot z (IsValue t)
+value_not : (t : Tree) (z : ℕ) → leading_kind z ≡ 7 → BeginsNot z (IsValue t)
 value_not t z hz b rest x p e = head_not z rest hz (value_head t b p) (kind_below t) e
 
 name_heads : (s : List ℕ) → Heads (λ n. IsString n s)
 name_heads s = record { no_space = λ b rest p. head_no_space b rest 4 (omega arith) (string_head b s p) }
 
-name_not : (s : List ℕ) (z : ℕ) → kind_of_byte z ≡ 7 → BeginsNot z (λ n. IsString n s)
+name_not : (s : List ℕ) (z : ℕ) → leading_kind z ≡ 7 → BeginsNot z (λ n. IsString n s)
 name_not s z hz b rest x p e = head_not z rest hz (string_head b s p) (omega arith) e
 
-value_apart : (t : Tree) (z : ℕ) → is_space z ≡ false → kind_of_byte z ≡ 7 → StandsApart z (IsValue t)
+value_apart : (t : Tree) (z : ℕ) → is_space z ≡ false → leading_kind z ≡ 7 → StandsApart z (IsValue t)
 value_apart t z s hz = record { byte_no_space = s; heads = value_heads t; begins_not = value_not t z hz }
 
-name_apart : (s : List ℕ) (z : ℕ) → is_space z ≡ false → kind_of_byte z ≡ 7 → StandsApart z (λ n. IsString n s)
+name_apart : (s : List ℕ) (z : ℕ) → is_space z ≡ false → leading_kind z ≡ 7 → StandsApart z (λ n. IsString n s)
 name_apart s z hs hz = record { byte_no_space = hs; heads = name_heads s; begins_not = name_not s z hz }
 
 -- two texts that begin alike begin with bytes of one kind
@@ -126,7 +126,7 @@ same_kind : {i j : ℕ} {a b : List ℕ} (x y : List ℕ) → Head a i → Head 
 same_kind x y h k e =
     let f : ◌≡◌ {A = List ℕ} (h.byte ∷ (h.rest ++ x)) (k.byte ∷ (k.rest ++ y)) = ap (λ z. z ++ x) (sym h.is) ∙ e ∙ ap (λ z. z ++ y) k.is in
     let same : h.byte ≡ k.byte = cc in
-    sym h.of_kind ∙ ap kind_of_byte same ∙ k.of_kind
+    sym h.of_kind ∙ ap leading_kind same ∙ k.of_kind
 
 more_ends : (ts : Trees) (b x : List ℕ) → AreMoreElements ts b → Closes 93 x → AtEnd (b ++ x)
 more_ends no_trees b x p c = rw (p, c.1) refl

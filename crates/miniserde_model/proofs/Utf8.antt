@@ -16,7 +16,7 @@ use Rattle.miniserde_model.specs.String.{carriage_return, tab, IsUnit, IsPiece, 
 use Rattle.miniserde_model.specs.String.{IsString}
 use Rattle.miniserde_model.specs.Value.{Spaced, Named, Then, Between, word, IsValue, AreElements, AreMoreElements}
 use Rattle.miniserde_model.specs.Value.{AreMembers, AreMoreMembers, IsJson}
-use Rattle.miniserde_model.proofs.Runs.{AllPass}
+use Rattle.miniserde_model.proofs.LongestRuns.{AllPass}
 use Rattle.miniserde_model.proofs.Numbers.{number_pass}
 
 -- ---- ASCII

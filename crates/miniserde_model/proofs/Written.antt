@@ -210,7 +210,8 @@ piece_low c s small =
                                           | inl e ↦ escaped_as 92 c e (short 92 backslash refl)
                                           | inr n92 ↦
                                               elim (cases_lt c 32) [
-                                                | inl low ↦ piece_control c s low (record { n8 = n8; n9 = n9; n10 = n10; n12 = n12; n13 = n13 })
+                                                | inl low ↦ piece_control c s low
+                                                    (record { n8 = n8; n9 = n9; n10 = n10; n12 = n12; n13 = n13 })
                                                 | inr high ↦ piece_raw c s high small n34 n92
                                               ]
                                         ]

@@ -11,17 +11,17 @@ use Rattle.miniserde_model.specs.Position.{Position, start, Completes}
 use Rattle.miniserde_model.specs.declared.kind.Kind.{Kind}
 use Rattle.miniserde_place.specs.Place.{PlaceView, Advances, Rejects, AdvancesBy, BeginsTree}
 use Rattle.miniserde_text.specs.private.Stack.{with_opened, innermost}
-use Rattle.miniserde_text.specs.private.Moving.{opened_kind, first_or_after}
+use Rattle.miniserde_text.specs.private.Moments.{opened_kind, first_or_after}
 use Rattle.miniserde_place.proofs.PositionAdvances.{AdvancesBy-append}
 use Rattle.miniserde_text.specs.Lexer.{event_of_token}
 use Rattle.miniserde_model.specs.declared.error.Error.{Error}
 use Rattle.miniserde_text.specs.declared.json.lex.Event as lexed
 use Rattle.miniserde_read.specs.Rest.{ValueAt}
-use Rattle.miniserde_text.specs.private.Runs.{Runs}
-use Rattle.miniserde_place.specs.private.Runs.{EngineState, state_before, after_first, Moved, RejectsRuns}
+use Rattle.miniserde_text.specs.private.EventRuns.{Runs}
+use Rattle.miniserde_place.specs.private.EngineRuns.{EngineState, state_before, after_first, Moved, RejectsRuns}
 use Rattle.miniserde_text.proofs.Consumes.{live_opened}
 use Rattle.miniserde_read.proofs.Values.{value_later, whole_at}
-use Rattle.miniserde_place.proofs.Moved.{Moved-none, barred_more}
+use Rattle.miniserde_place.proofs.Moved.{Moved-none, rejects_more}
 use Rattle.miniserde_place.proofs.Spelled.{Unfinished, more_to_come, more_behind, tree_spelled}
 
 complete_from : (t : Tree) (at : Position) → at ≡ start → Completes at (events t)
@@ -36,22 +36,22 @@ pub record Fed {C : Type 0} (old : PlaceView C) (e : Step) (s : List ℕ) (now :
   pub moved : Moved (after_first e s view) now
 
 -- if the place, at the start, rejects e, its outcome gives nothing for a value that begins with e
-pub first_barred : {C : Type 0} (old : PlaceView C) (e : Step) (s : List ℕ) → old.at ≡ start → Rejects old e
+pub first_rejects : {C : Type 0} (old : PlaceView C) (e : Step) (s : List ℕ) → old.at ≡ start → Rejects old e
     → (t : Tree) (r : List ℕ) → ValueAt t e s r → old.outcome (events t) ≡ None
-first_barred old e s f b t r v =
+first_rejects old e s f b t r v =
     let l = value_later t e s r v in
     ap old.outcome l.is ∙ b l.later (subst (λ z. Completes old.at z) l.is (complete_from t old.at f))
 
 -- if the place, at the start, was handed events and rejects all that runs behind them, its outcome gives nothing for a
 -- value that begins with the first of them
-pub later_barred : {C : Type 0} {old : PlaceView C} {e : Step} {s : List ℕ} {now : EngineState C} → old.at ≡ start
+pub later_rejects : {C : Type 0} {old : PlaceView C} {e : Step} {s : List ℕ} {now : EngineState C} → old.at ≡ start
     → Fed old e s now → RejectsRuns now → (t : Tree) (r : List ℕ) → ValueAt t e s r → old.outcome (events t) ≡ None
-later_barred {old = old} {e = e} {s = s} f p b t r v =
+later_rejects {old = old} {e = e} {s = s} f p b t r v =
     let l = value_later t e s r v in
     let c : Completes old.at (e ∷ l.later) = subst (λ z. Completes old.at z) l.is (complete_from t old.at f) in
     let h = p.starts l.later c in
     ap old.outcome l.is ∙ sym h.1
-    ∙ barred_more p.moved b l.later r l.runs (subst (λ z. Completes z l.later) (sym h.0) c.1)
+    ∙ rejects_more p.moved b l.later r l.runs (subst (λ z. Completes z l.later) (sym h.0) c.1)
 
 -- behind the first event e of a value, passing no further event is a move from that state to itself
 pub moved_init : {C : Type 0} (e : Step) (f : Bool) (st : List Kind) (s : List ℕ) (p : PlaceView C)
@@ -123,11 +123,11 @@ module _ {C P : Type 0} (view : P → PlaceView C) (first : PlaceView C) where
   abbrev Left : P → Error → Type 0
   Left p e = ((view p).refused ≡ Some e) ⊎ (((view p).refused ≡ None) × BeginsTree first (view p))
 
-  pub keeps_exit : {T : Type 0} (old new : P) (r : Result T Error) (e : Error) → r ≡ Err e
+  pub exit_sticky : {T : Type 0} (old new : P) (r : Result T Error) (e : Error) → r ≡ Err e
       → (view old).refused ≡ None → BeginsTree first (view old)
       → (((view new).refused ≡ Some e) ⊎ (new ≡ old)) → IfErr r (Left new)
-  keeps_exit old new r e h f b (inl q) = subst (λ z. IfErr z (Left new)) (sym h) (inl q)
-  keeps_exit old new r e h f b (inr q) =
+  exit_sticky old new r e h f b (inl q) = subst (λ z. IfErr z (Left new)) (sym h) (inl q)
+  exit_sticky old new r e h f b (inr q) =
       subst (λ z. IfErr z (Left new)) (sym h)
       (inr (
         ap (λ p. (view p).refused) q ∙ f,

@@ -5,27 +5,27 @@ use Rattle.miniserde_model.specs.Step.{Step}
 use Rattle.miniserde_model.specs.Position.{Completes}
 use Rattle.miniserde_model.specs.declared.kind.Kind.{Kind}
 use Rattle.miniserde_model.specs.private.Reading.{Moment}
-use Rattle.miniserde_text.specs.private.Moving.{MomentFits}
-use Rattle.miniserde_text.specs.private.Runs.{Consumes, NeverRuns}
+use Rattle.miniserde_text.specs.private.Moments.{MomentFits}
+use Rattle.miniserde_text.specs.private.EventRuns.{Consumes, NeverRuns}
 use Rattle.miniserde_text.proofs.Consumes.{Consumes-none, Consumes-append}
 use Rattle.miniserde_place.specs.Place.{Advances, Rejects}
-use Rattle.miniserde_place.specs.private.Runs.{EngineState, Spellable, Moved, RejectsRuns}
+use Rattle.miniserde_place.specs.private.EngineRuns.{EngineState, Spellable, Moved, RejectsRuns}
 use Rattle.miniserde_place.proofs.PositionAdvances.{leads_completes, AdvancesBy-append}
 
 -- what never runs gives no value
-pub never_barred : {C : Type 0} (now : EngineState C) → NeverRuns now.moment now.kinds now.rest → RejectsRuns now
-never_barred now n es r h c = absurd (n es r h)
+pub never_rejects : {C : Type 0} (now : EngineState C) → NeverRuns now.moment now.kinds now.rest → RejectsRuns now
+never_rejects now n es r h c = absurd (n es r h)
 
 -- an event that the text forces, and that the place refuses
-pub barred_one : {C : Type 0} (now : EngineState C) (e : Step) {m : Moment} {st : List Kind} {s : List ℕ}
+pub rejects_one : {C : Type 0} (now : EngineState C) (e : Step) {m : Moment} {st : List Kind} {s : List ℕ}
     → Consumes now.moment now.kinds now.rest (e ∷ []) m st s → Rejects now.view e → RejectsRuns now
-barred_one now e p b es r h c =
+rejects_one now e p b es r h c =
     let a = p.back es r h in
     ap now.view.outcome a.1 ∙ b a.0 (subst (λ z. Completes now.view.at z) a.1 c)
 
 -- what bars the rest bars the whole
-pub barred_more : {C : Type 0} {from to : EngineState C} → Moved from to → RejectsRuns to → RejectsRuns from
-barred_more {from = from} {to = to} p b es r h c =
+pub rejects_more : {C : Type 0} {from to : EngineState C} → Moved from to → RejectsRuns to → RejectsRuns from
+rejects_more {from = from} {to = to} p b es r h c =
     let a = p.passed.back es r h in
     let d : Completes from.view.at (p.done ++ a.0) = subst (λ z. Completes from.view.at z) a.1 c in
     ap from.view.outcome a.1 ∙ sym (p.advances a.0 d).1

@@ -11,17 +11,17 @@ use Rattle.miniserde_model.specs.Lexing.{Starts, Names}
 use Rattle.miniserde_model.specs.declared.kind.Kind.{Kind}
 use Rattle.miniserde_model.specs.declared.kind.Kind.TheVariants.{Seq, Map}
 use Rattle.miniserde_model.specs.private.Reading.{Moment, due, first, after}
-use Rattle.miniserde_model.proofs.Reading.{at_front}
-use Rattle.miniserde_model.proofs.ReadBack.{spells_json, nothing_left}
+use Rattle.miniserde_model.proofs.TreeEvents.{at_front}
+use Rattle.miniserde_model.proofs.ReadBack.{spells_json, no_events_left}
 use Rattle.miniserde_model.proofs.Accepted.{json_tree}
 use Rattle.miniserde_text.specs.Lexer.{event_of_token}
 use Rattle.miniserde_text.specs.declared.json.lex.Event as lexed
 use Rattle.miniserde_text.specs.declared.json.lex.Event.TheVariants as variant
 use Rattle.miniserde_text.specs.private.Stack.{with_opened, innermost, outer}
-use Rattle.miniserde_text.specs.private.Moving.{opened_kind, first_or_after, MomentFits}
+use Rattle.miniserde_text.specs.private.Moments.{opened_kind, first_or_after, MomentFits}
 use Rattle.miniserde_text.proofs.Stacks.{split_top}
-use Rattle.miniserde_text.proofs.Starting.{starts_on}
-use Rattle.miniserde_place.specs.private.Runs.{Spellable}
+use Rattle.miniserde_text.proofs.FirstEvents.{starts_on}
+use Rattle.miniserde_place.specs.private.EngineRuns.{Spellable}
 
 -- ---- one event before others
 
@@ -112,7 +112,7 @@ more_behind es e rest h = omega (arith, ap length h, length-append es (e ∷ res
 
 -- behind a leaf no event comes
 leaf_ends : {A : Type 0} (es : List Step) → (es ≡ [] → ⊥) → Spellable after es [] → A
-leaf_ends es n h = absurd (n (nothing_left es h.0 h.1).0)
+leaf_ends es n h = absurd (n (no_events_left es h.0 h.1).0)
 
 spelled_events : (es : List Step) → Spellable due es [] → (u : Tree) × (es ≡ events u) × InRange u
 spelled_events es h = let t = spells_json es h.0 h.1 in (t.0, t.1, json_tree h.0 t.0 t.2)

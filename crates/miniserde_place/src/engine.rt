@@ -8,10 +8,10 @@ ghost use Rattle.miniserde_text.specs.Lexer.{event_of_token};
 ghost use Rattle.miniserde_model.specs.declared.error.Error.{Error};
 ghost use Rattle.miniserde_read.specs.Rest.{ValueAt, GivesAt, GivesNoneAt};
 ghost use Rattle.miniserde_read.specs.Events.{EventInRange};
-ghost use Rattle.miniserde_text.specs.private.Moving.{opened_kind};
+ghost use Rattle.miniserde_text.specs.private.Moments.{opened_kind};
 ghost use Rattle.miniserde_text.specs.private.Stack.{innermost, with_opened};
 ghost use Rattle.miniserde_place.specs.Place.{AdvancesBy, BeginsTree, Advances, Rejects};
-ghost use Rattle.miniserde_place.specs.private.Runs.{Moved, RejectsRuns, state_before, after_move};
+ghost use Rattle.miniserde_place.specs.private.EngineRuns.{Moved, RejectsRuns, state_before, after_move};
 
 use crate::de::{Step, Visitor};
 use miniserde_model::error::{Error, Result};

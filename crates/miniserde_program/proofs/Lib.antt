@@ -1,3 +1,3 @@
-mod Walks
+mod FieldlessStructs
 pub mod Written
 pub mod Faults

@@ -7,9 +7,9 @@ use Rattle.miniserde_model.specs.Lexing.{Starts, Follows}
 use Rattle.miniserde_model.specs.declared.kind.Kind.TheVariants.{Seq}
 use Rattle.miniserde_read.specs.Meaning.{Meaning}
 use Rattle.miniserde_read.specs.Rest.{ValueAt, GivesAt, GivesNoneAt}
-use Rattle.miniserde_text.proofs.Starting.{start_less, same_start}
+use Rattle.miniserde_text.proofs.FirstEvents.{start_less, same_start}
 use Rattle.miniserde_read.proofs.Length.{follows_least, value_least}
-use Rattle.miniserde_text.proofs.Turning.{next_same, close_no_next}
+use Rattle.miniserde_text.proofs.NextChild.{next_same, close_no_next}
 use Rattle.miniserde_read.specs.Due.{ReadsDue, RejectsDue, NextElement, ElementRejects}
 
 -- the text behind a value that was due is shorter than the text before it

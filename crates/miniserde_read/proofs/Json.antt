@@ -14,10 +14,10 @@ use Rattle.miniserde_model.specs.Lexing.{Starts}
 use Rattle.miniserde_model.specs.declared.kind.Kind.{Kind}
 use Rattle.miniserde_model.specs.declared.kind.Kind.TheVariants.{Seq, Map}
 use Rattle.miniserde_model.specs.private.Reading.{due, first}
-use Rattle.miniserde_text.specs.private.Moving.{first_or_after}
-use Rattle.miniserde_text.specs.private.Runs.{Runs}
-use Rattle.miniserde_text.proofs.Starting.{same_start}
-use Rattle.miniserde_text.proofs.Wholes.{json_run, run_json, nothing_left}
+use Rattle.miniserde_text.specs.private.Moments.{first_or_after}
+use Rattle.miniserde_text.specs.private.EventRuns.{Runs}
+use Rattle.miniserde_text.proofs.FirstEvents.{same_start}
+use Rattle.miniserde_text.proofs.Wholes.{json_run, run_json, no_events_left}
 use Rattle.miniserde_read.specs.Rest.{ValueAt}
 use Rattle.miniserde_read.proofs.Same.{value_same}
 use Rattle.miniserde_read.proofs.Values.{value_then_runs, At, leaf_at, ElementsEnd, MembersEnd}
@@ -90,7 +90,7 @@ json_at j t h =
       end = a.end;
       starts = a.starts;
       is_value = a.is_value;
-      is_space = subst IsWhitespace (nothing_left [] a.end k.0 a.is_rest).1 k.2;
+      is_space = subst IsWhitespace (no_events_left [] a.end k.0 a.is_rest).1 k.2;
     }
 
 -- what stands at the front is the front of the whole

@@ -7,7 +7,7 @@ use Rattle.miniserde_model.specs.Step.{Step}
 use Rattle.miniserde_model.specs.Lexing.{Stands, Follows}
 use Rattle.miniserde_model.specs.declared.kind.Kind.{Kind}
 use Rattle.miniserde_model.specs.declared.kind.Kind.TheVariants.{Seq, Map}
-use Rattle.miniserde_text.proofs.Starting.{start_less}
+use Rattle.miniserde_text.proofs.FirstEvents.{start_less}
 use Rattle.miniserde_read.specs.Rest.{ValueAt, ElementsAt, MembersAt}
 
 -- the text behind whitespace and a part is no longer than the text before them

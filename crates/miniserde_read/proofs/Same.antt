@@ -8,10 +8,10 @@ use Rattle.miniserde_model.specs.Step.{Step, boolean, string, negative, nonnegat
 use Rattle.miniserde_model.specs.Step as step
 use Rattle.miniserde_model.specs.Lexing.{Starts, Names}
 use Rattle.miniserde_model.specs.declared.kind.Kind.TheVariants.{Seq, Map}
-use Rattle.miniserde_text.proofs.Starting.{same_name}
+use Rattle.miniserde_text.proofs.FirstEvents.{same_name}
 use Rattle.miniserde_read.specs.Rest.{ValueAt, ElementsAt, MembersAt}
-use Rattle.miniserde_text.proofs.Starting.{same_start}
-use Rattle.miniserde_text.proofs.Turning.{close_same, next_same, close_no_next}
+use Rattle.miniserde_text.proofs.FirstEvents.{same_start}
+use Rattle.miniserde_text.proofs.NextChild.{close_same, next_same, close_no_next}
 
 -- ---- the first event of a tree
 

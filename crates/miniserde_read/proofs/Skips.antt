@@ -13,8 +13,8 @@ use Rattle.miniserde_model.specs.declared.error.Error.{Error}
 use Rattle.miniserde_text.specs.declared.json.lex.Event as lexed
 use Rattle.miniserde_read.specs.Rest.{ValueAt}
 use Rattle.miniserde_text.specs.private.Stack.{with_opened, innermost}
-use Rattle.miniserde_text.specs.private.Moving.{opened_kind, first_or_after}
-use Rattle.miniserde_text.specs.private.Runs.{Runs, Reaches, NeverRuns}
+use Rattle.miniserde_text.specs.private.Moments.{opened_kind, first_or_after}
+use Rattle.miniserde_text.specs.private.EventRuns.{Runs, Reaches, NeverRuns}
 use Rattle.miniserde_text.proofs.Consumes.{Consumes-none, live_opened, value_passed}
 use Rattle.miniserde_read.proofs.Values.{value_later, whole_at}
 

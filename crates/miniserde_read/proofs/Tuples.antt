@@ -9,7 +9,7 @@ use Rattle.miniserde_read.specs.Items.{ItemsGiveAt, ItemsGiveNoneAt}
 use Rattle.miniserde_read.specs.types.Pairs.{both}
 use Rattle.miniserde_read.specs.Due.{ReadsDue, ElementRejects}
 use Rattle.miniserde_read.specs.Rest.{ElementsAt}
-use Rattle.miniserde_text.proofs.Turning.{close_no_next}
+use Rattle.miniserde_text.proofs.NextChild.{close_no_next}
 use Rattle.miniserde_read.proofs.Same.{value_same}
 use Rattle.miniserde_read.proofs.Steps.{elements_there, elements_close}
 use Rattle.miniserde_read.specs.types.Tuples.{none_of, item_of}

@@ -13,13 +13,13 @@ use Rattle.miniserde_model.specs.declared.kind.Kind.{Kind}
 use Rattle.miniserde_model.specs.declared.kind.Kind.TheVariants.{Seq, Map}
 use Rattle.miniserde_model.specs.private.Reading.{due, first, after}
 use Rattle.miniserde_text.specs.private.Stack.{with_opened}
-use Rattle.miniserde_text.specs.private.Moving.{opened_kind, first_or_after}
+use Rattle.miniserde_text.specs.private.Moments.{opened_kind, first_or_after}
 use Rattle.miniserde_text.specs.Lexer.{event_of_token}
 use Rattle.miniserde_text.specs.declared.json.lex.Event as lexed
 use Rattle.miniserde_text.specs.declared.json.lex.Event.TheVariants as variant
 use Rattle.miniserde_read.specs.Rest.{ValueAt, ElementsAt, MembersAt}
-use Rattle.miniserde_text.specs.private.Runs.{Runs}
-use Rattle.miniserde_text.proofs.Wholes.{nothing_left}
+use Rattle.miniserde_text.specs.private.EventRuns.{Runs}
+use Rattle.miniserde_text.proofs.Wholes.{no_events_left}
 
 -- ---- from the tree to its events
 
@@ -320,12 +320,12 @@ pub record Whole (e : Step) (later : List Step) (s r : List ℕ) : Type 0 where
 leaf_whole : (t : Tree) (e : Step) {es : List Step} {s r : List ℕ} → events t ≡ e ∷ []
     → ((z : List ℕ) → z ≡ s → ValueAt t e s z) → Runs after es [] s r → Whole e es s r
 leaf_whole t e {es = es} {s = s} {r = r} i v h =
-    let n = nothing_left es s r h in record { tree = t; is = ap (λ z. e ∷ z) n.0 ∙ sym i; is_value = v r n.1 }
+    let n = no_events_left es s r h in record { tree = t; is = ap (λ z. e ∷ z) n.0 ∙ sym i; is_value = v r n.1 }
 
 list_whole : (es : List Step) (s r : List ℕ) → Runs first es (Seq ∷ []) s r → Whole seq es s r
 list_whole es s r h =
     let f = find_elements (length es) true es [] s r (omega arith) h in
-    let n = nothing_left f.left f.at.0 r f.at.2 in
+    let n = no_events_left f.left f.at.0 r f.at.2 in
     record {
       tree = list f.found;
       is = ap (λ z. seq ∷ z) (f.is ∙ ap (λ z. child_events f.found ++ finish ∷ z) n.0);
@@ -335,7 +335,7 @@ list_whole es s r h =
 object_whole : (es : List Step) (s r : List ℕ) → Runs first es (Map ∷ []) s r → Whole map es s r
 object_whole es s r h =
     let f = find_members (length es) true es [] s r (omega arith) h in
-    let n = nothing_left f.left f.at.0 r f.at.2 in
+    let n = no_events_left f.left f.at.0 r f.at.2 in
     record {
       tree = members f.found;
       is =

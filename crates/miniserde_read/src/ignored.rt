@@ -7,8 +7,8 @@ ghost use Rattle.miniserde_model.specs.declared.error.Error.{Error};
 ghost use Rattle.miniserde_read.specs.Meanings.{ignored_meaning};
 ghost use Rattle.miniserde_read.specs.Rest.{ValueAt};
 ghost use Rattle.miniserde_read.specs.Due.{ReadsDue, RejectsDue};
-ghost use Rattle.miniserde_text.specs.private.Moving.{first_or_after};
-ghost use Rattle.miniserde_text.specs.private.Runs.{Reaches, NeverRuns};
+ghost use Rattle.miniserde_text.specs.private.Moments.{first_or_after};
+ghost use Rattle.miniserde_text.specs.private.EventRuns.{Reaches, NeverRuns};
 ghost use Rattle.miniserde_text.specs.private.Stack.{innermost};
 
 use crate::from_json::FromJson;

@@ -12,11 +12,11 @@ use Rattle.miniserde_keys.specs.laws.Keys.{ReadsBack}
 use Rattle.miniserde_ser.specs.Trees.{members_of}
 
 -- by the laws of a key
-module _ {K : Type 0} (eq : K → K → Bool) (real : K → Type 0) (content : K → Key) (code : Key → Key)
+module _ {K : Type 0} (eq : K → K → Bool) (valid : K → Type 0) (content : K → Key) (code : Key → Key)
     (read : List ℕ → Option Key) (text : K → List ℕ)
     (alike : (a b : K) → eq a b ≡ bytes_eq (code (content a)) (code (content b)))
-    (back : ReadsBack real content code read text) where
-  differ : (a b : K) → real a → real b → eq a b ≡ false → bytes_eq (text a) (text b) ≡ false
+    (back : ReadsBack valid content code read text) where
+  differ : (a b : K) → valid a → valid b → eq a b ≡ false → bytes_eq (text a) (text b) ≡ false
   differ a b ra rb h = false_from_ne_true _ (λ e.
       let same : text a ≡ text b = (bytes_eq-Decides (text a) (text b)).0 e in
       let c = back a ra in
@@ -25,13 +25,13 @@ module _ {K : Type 0} (eq : K → K → Bool) (real : K → Type 0) (content : K
       let one : code (content a) ≡ code (content b) = sym c.3 ∙ ap code (same_Some _ _ read_same) ∙ d.3 in
       true≢false (sym ((bytes_eq-Decides _ _).1 one) ∙ sym (alike a b) ∙ h))
 
-  all_differ : {V : Type 0} (a : K) (es : List (K × V)) → real a → AllByRecursion (λ e. real e.0) es
+  all_differ : {V : Type 0} (a : K) (es : List (K × V)) → valid a → AllByRecursion (λ e. valid e.0) es
       → AllByRecursion (λ b. eq a b ≡ false) (map (λ e. e.0) es)
       → AllByRecursion (λ n. bytes_eq (text a) n ≡ false) (map (λ e. text e.0) es)
   all_differ a [] ra r h = tt
   all_differ a (e ∷ es) ra r h = (differ a e.0 ra r.0 h.0, all_differ a es ra r.1 h.1)
 
-  pub distinct_names : {V : Type 0} (es : List (K × V)) → AllByRecursion (λ e. real e.0) es
+  pub distinct_names : {V : Type 0} (es : List (K × V)) → AllByRecursion (λ e. valid e.0) es
       → IsDistinct eq (map (λ e. e.0) es) → IsDistinct bytes_eq (map (λ e. text e.0) es)
   unfolding IsDistinct
   distinct_names [] r d = tt

@@ -15,7 +15,7 @@ use Rattle.miniserde_model.proofs.OneNormal.{norm_only}
 use Rattle.miniserde_read.specs.types.Objects.{Name}
 use Rattle.miniserde_stored.specs.Stable.{IsStable}
 use Rattle.miniserde_stored.proofs.Types.{bound, mapped}
-use Rattle.miniserde_record.specs.Fields.{content_pair, other_members, last_content, fields_content, AllNamed, count_named}
+use Rattle.miniserde_record.specs.Fields.{content_pair, other_members, last_content, fields_content, AllOfName, count_named}
 use Rattle.miniserde_stored.specs.StableFields.{AreStable}
 use Rattle.miniserde_record.specs.laws.Meanings.{last_or, last-all, all-last, last-some, last-once}
 use Rattle.miniserde_record.specs.laws.Left.{last-apart}
@@ -50,20 +50,21 @@ count_normal n (member k t ms) =
     omega (arith, first, more)
 
 module _ {C : Type 0} (of : Tree → Option C) (stable : IsStable of) (n : Name) where
-  named_first : (k : Name) (t : Tree) (ms : Members) → AllNamed of n (member k t ms) → AllNamed of n (with_if_absent k t ms)
+  named_first : (k : Name) (t : Tree) (ms : Members) → AllOfName of n (member k t ms) → AllOfName of n (with_if_absent k t ms)
   named_first k t no_members h = h
-  named_first k t (member j u ms) h = elim (text_cmp k j) as (λ r. AllNamed of n (with_if_absent_by r k t j u ms (with_if_absent k t ms))) [
-    | Less ↦ h
-    | Equal ↦ h.1
-    | Greater ↦ (h.1.0, named_first k t ms (h.0, h.1.1))
-  ]
+  named_first k t (member j u ms) h =
+      elim (text_cmp k j) as (λ r. AllOfName of n (with_if_absent_by r k t j u ms (with_if_absent k t ms))) [
+        | Less ↦ h
+        | Equal ↦ h.1
+        | Greater ↦ (h.1.0, named_first k t ms (h.0, h.1.1))
+      ]
 
   -- a tree that gives something gives it in normal form
   same_normal : (t : Tree) → IsSome (of t) → of (norm t) ≡ of t
   same_normal t s = elim (of t) as (λ o. of t ≡ o → IsSome o → of (norm t) ≡ o)
       [ None ↦ λ e i. absurd (cc) | Some c ↦ λ e i. stable t c e ] refl s
 
-  named_normal : (ms : Members) → AllNamed of n ms → AllNamed of n (norm_members ms)
+  named_normal : (ms : Members) → AllOfName of n ms → AllOfName of n (norm_members ms)
   named_normal no_members h = tt
   named_normal (member k t ms) h =
       named_first k (norm t) (norm_members ms)

@@ -6,14 +6,14 @@ use Rattle.miniserde_model.specs.Normal.{norm}
 use Rattle.miniserde_model.proofs.Normal.{norm_twice}
 use Rattle.miniserde_stored.specs.Stable.{IsStable}
 use Rattle.miniserde_value.specs.Retained.{retained_tree}
-use Rattle.miniserde_value.specs.Numbers.{number_of}
+use Rattle.miniserde_value.specs.Numbers.{if_number}
 
 -- a normal form is its own normal form
 pub stable-document : IsStable (λ t. Some (norm t))
 stable-document t c e = ap (λ (z : Tree). Some z) (norm_twice t) ∙ e
 
 -- `-0` and its normal form 0 are two numbers
-pub unstable-number : IsStable number_of → ⊥
+pub unstable-number : IsStable if_number → ⊥
 unstable-number stable = let e = stable (neg (pos 0)) (neg (pos 0)) refl in absurd (cc)
 
 -- the content that a `Value` retains of a tree is not stable

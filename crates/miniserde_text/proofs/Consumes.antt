@@ -8,11 +8,11 @@ use Rattle.miniserde_model.specs.declared.kind.Kind.{Kind}
 use Rattle.miniserde_model.specs.declared.kind.Kind.TheVariants.{Seq, Map}
 use Rattle.miniserde_model.specs.private.Reading.{Moment, due, after}
 use Rattle.miniserde_text.specs.private.Stack.{with_opened, innermost, outer}
-use Rattle.miniserde_text.specs.private.Moving.{opened_kind, first_or_after, MomentFits}
+use Rattle.miniserde_text.specs.private.Moments.{opened_kind, first_or_after, MomentFits}
 use Rattle.miniserde_text.proofs.Stacks.{split_top}
-use Rattle.miniserde_text.specs.private.Runs.{Runs, Consumes, Reaches, NeverRuns}
-use Rattle.miniserde_text.proofs.Starting.{live_at, same_start, same_name}
-use Rattle.miniserde_text.proofs.Turning.{close_same, next_same, close_no_next}
+use Rattle.miniserde_text.specs.private.EventRuns.{Runs, Consumes, Reaches, NeverRuns}
+use Rattle.miniserde_text.proofs.FirstEvents.{live_at, same_start, same_name}
+use Rattle.miniserde_text.proofs.NextChild.{close_same, next_same, close_no_next}
 
 -- ---- a value's first event
 

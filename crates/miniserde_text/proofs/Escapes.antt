@@ -16,7 +16,7 @@ use Rattle.miniserde_model.specs.String.{pair}
 use Rattle.miniserde_text.specs.private.Reading.{is_hex, is_high, is_low, begins_code_unit, code_unit_at}
 use Rattle.miniserde_text.specs.private.Reading.{begins_unicode_escape, pair_of, low_at, unicode_at, short_at}
 use Rattle.miniserde_text.specs.private.Reading.{escape_at}
-use Rattle.miniserde_text.proofs.Runs.{or_true}
+use Rattle.miniserde_text.proofs.ByteRuns.{or_true}
 use Rattle.std.proofs.lemmas.Option.{cond_some, same_Some}
 use Rattle.miniserde_text.proofs.Options.{chosen, none_if, then_if, map_some, bind_some, first_byte, and_parts}
 

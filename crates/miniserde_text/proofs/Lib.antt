@@ -1,4 +1,4 @@
-pub mod Runs
+pub mod ByteRuns
 pub mod Digits
 pub mod Options
 pub mod Leaves
@@ -14,11 +14,11 @@ pub mod Names
 pub mod Scratch
 pub mod Equal
 pub mod Tables
-pub mod Escaping
+pub mod EscapeRule
 pub mod Plain
 pub mod Decimals
 pub mod Stacks
-pub mod Starting
-pub mod Turning
+pub mod FirstEvents
+pub mod NextChild
 pub mod Consumes
 pub mod Wholes

@@ -8,8 +8,8 @@ use Rattle.miniserde_model.specs.String.{IsString}
 use Rattle.miniserde_model.specs.Lexing.{BeforeColon, IsName, Names}
 use Rattle.miniserde_model.proofs.Strings.{same_string}
 use Rattle.miniserde_text.specs.private.Reading.{after_run}
-use Rattle.miniserde_text.specs.private.Taking.{SpellsUpToQuote, BeginsWith, TakesName}
-use Rattle.miniserde_text.proofs.Runs.{run_split, run_only_space, whitespace_of, stands_of, stands_only}
+use Rattle.miniserde_text.specs.private.LexerParts.{SpellsUpToQuote, BeginsWith, TakesName}
+use Rattle.miniserde_text.proofs.ByteRuns.{run_split, run_only_space, whitespace_of, stands_of, stands_only}
 use Rattle.miniserde_text.proofs.Options.{first_byte}
 use Rattle.miniserde_text.proofs.Strings.{string_leads, string_chars}
 
@@ -40,14 +40,14 @@ name_quote s n r (b, h, j) =
     ap (λ x. slice_index x 0) (name_split s r b _ h j) ∙ ap (λ x. slice_index (x ++ (h.space ++ 58 ∷ r)) 0) h.is_spelled.text
 
 -- if no string goes on after the first byte of s, s does not begin with a name
-pub name_string : (s n r : List ℕ) → TakesName s n r → ((cs u : List ℕ) → SpellsUpToQuote cs (drop 1 s) u → ⊥) → ⊥
-name_string s n r (b, h, j) never =
+pub no_string-no_name : (s n r : List ℕ) → TakesName s n r → ((cs u : List ℕ) → SpellsUpToQuote cs (drop 1 s) u → ⊥) → ⊥
+no_string-no_name s n r (b, h, j) never =
     never h.is_spelled.characters (h.space ++ 58 ∷ r) (string_chars h.spelled n s (h.space ++ 58 ∷ r) h.is_spelled (name_split s r b _ h j))
 
 -- if s begins with a string, and no colon follows after whitespace, s does not begin with a name
-pub name_colon : (s n r ds rest colon : List ℕ) → slice_index s 0 ≡ 34 → TakesName s n r
+pub no_colon-no_name : (s n r ds rest colon : List ℕ) → slice_index s 0 ≡ 34 → TakesName s n r
     → SpellsUpToQuote ds (drop 1 s) rest → colon ≡ after_run is_space rest → slice_index colon 0 ≢ 58 → ⊥
-name_colon s n r ds rest colon at (b, h, j) x c away =
+no_colon-no_name s n r ds rest colon at (b, h, j) x c away =
     let l = string_leads ds s (encode_utf8_all ds) rest at x refl in
     let same = same_string _ n l.0 h.spelled rest (h.space ++ 58 ∷ r) l.1 h.is_spelled (sym l.2 ∙ name_split s r b _ h j) in
     away (ap (λ y. slice_index y 0) (c ∙ ap (after_run is_space) same.1 ∙ run_only_space h.space (58 ∷ r) h.is_space refl))

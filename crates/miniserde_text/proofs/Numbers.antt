@@ -13,12 +13,12 @@ use Rattle.std.proofs.lemmas.Bool.{true≢false}
 use Rattle.miniserde_model.specs.Step.{Step}
 use Rattle.miniserde_model.specs.Number.{IsDigit, AreDigits, IsInt, IsMinus, IsFraction, IsSign, IsExponent, IsNumberText, leaf}
 use Rattle.miniserde_model.specs.Bytes.{is_number_byte, StopsAt}
-use Rattle.miniserde_model.proofs.Runs.{AllPass}
+use Rattle.miniserde_model.proofs.LongestRuns.{AllPass}
 use Rattle.miniserde_text.specs.private.Reading.{after_run, is_digit, is_sign, is_exponent_letter, after_digits}
 use Rattle.miniserde_text.specs.private.Reading.{after_minus, after_int, after_fraction, after_sign, after_exponent}
 use Rattle.miniserde_text.specs.private.Reading.{after_tail, before, event_of_parts, event_at, number_at}
-use Rattle.miniserde_text.specs.private.Taking.{BeginsWith}
-use Rattle.miniserde_text.proofs.Runs.{run_split, run_only, stops_at, stops_of, or_true}
+use Rattle.miniserde_text.specs.private.LexerParts.{BeginsWith}
+use Rattle.miniserde_text.proofs.ByteRuns.{run_split, run_only, stops_at, stops_of, or_true}
 use Rattle.std.proofs.lemmas.Option.{cond_some, same_Some}
 use Rattle.miniserde_text.proofs.Options.{chosen, none_if, bind_some, first_byte, first_of_test, before_append, before_is}
 use Rattle.miniserde_text.proofs.Leaves.{event_of, sign_of, whole_digits, int_has_no_minus, number_event_of_text}

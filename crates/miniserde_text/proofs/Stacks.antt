@@ -22,9 +22,9 @@ same_kinds ws vs (suc n) h =
     let rest : stack_of ws n ≡ stack_of vs n = same_kinds ws vs n (λ i l. h i (omega arith)) in
     ap (λ k. k ∷ stack_of ws n) here ∙ ap (λ st. kind_at vs n ∷ st) rest
 
-kind_of_bit : (k : Kind) → kind_by (bit_of k) ≡ k
-kind_of_bit Seq = refl
-kind_of_bit Map = refl
+kind_by_bit : (k : Kind) → kind_by (bit_of k) ≡ k
+kind_by_bit Seq = refl
+kind_by_bit Map = refl
 
 -- `&` with 63 is the remainder by 64
 place : (n : ℕ) → bit_and n 63 ≡ n % 64
@@ -59,7 +59,7 @@ opened : (ws : List ℕ) (n w : ℕ) (k : Kind) → n / 64 < length ws → bit_a
     → stack_of (set ws (n / 64) w) (suc n) ≡ k ∷ stack_of ws n
 opened ws n w k l e h =
     let here : kind_at (set ws (n / 64) w) n ≡ k =
-    ap (λ z. kind_by (bit_at z (n % 64))) (get_or-set_same ws (n / 64) w 0 l) ∙ ap kind_by e ∙ kind_of_bit k in
+    ap (λ z. kind_by (bit_at z (n % 64))) (get_or-set_same ws (n / 64) w 0 l) ∙ ap kind_by e ∙ kind_by_bit k in
     let rest : stack_of (set ws (n / 64) w) n ≡ stack_of ws n = same_kinds (set ws (n / 64) w) ws n (below_stays ws n w l h) in
     ap (λ z. z ∷ stack_of (set ws (n / 64) w) n) here ∙ ap (λ st. k ∷ st) rest
 

@@ -14,8 +14,8 @@ use Rattle.miniserde_model.specs.Lexing.{IsByte, closing, Begins, Follows}
 use Rattle.miniserde_model.specs.declared.kind.Kind.{Kind}
 use Rattle.miniserde_model.specs.declared.kind.Kind.TheVariants.{Seq, Map}
 use Rattle.miniserde_text.specs.private.Reading.{after_run, is_closing, begins_child, punctuation_at}
-use Rattle.miniserde_text.specs.private.Taking.{BeginsWith}
-use Rattle.miniserde_text.proofs.Runs.{run_split, run_only_space, run_stops, Stops, whitespace_of, stands_of, stands_only}
+use Rattle.miniserde_text.specs.private.LexerParts.{BeginsWith}
+use Rattle.miniserde_text.proofs.ByteRuns.{run_split, run_only_space, run_stops, Stops, whitespace_of, stands_of, stands_only}
 use Rattle.std.proofs.lemmas.Option.{cond_some, same_Some}
 use Rattle.miniserde_text.proofs.Options.{chosen, first_byte}
 

@@ -17,12 +17,12 @@ use lib.Utf8.{scalars, scalar}
 use borrow.Author.Tests.{ltb-false}
 use Rattle.miniserde_model.specs.Bytes.{is_special}
 use Rattle.miniserde_model.specs.String.{IsRaw, IsPiece, raw, ArePieces, IsString}
-use Rattle.miniserde_model.proofs.Runs.{AllPass}
+use Rattle.miniserde_model.proofs.LongestRuns.{AllPass}
 use Rattle.miniserde_model.proofs.Strings.{same_piece}
 use Rattle.miniserde_text.specs.Lexer.{HasBackslash}
 use Rattle.miniserde_text.specs.private.Reading.{after_run, before, is_unescaped, escape_at}
-use Rattle.miniserde_text.specs.private.Taking.{SpellsUpToQuote, PassesCharacters, Adds, BeginsWith}
-use Rattle.miniserde_text.proofs.Runs.{run_split, run_stops}
+use Rattle.miniserde_text.specs.private.LexerParts.{SpellsUpToQuote, PassesCharacters, Adds, BeginsWith}
+use Rattle.miniserde_text.proofs.ByteRuns.{run_split, run_stops}
 use Rattle.miniserde_text.proofs.Options.{first_byte, none_is_some, and_parts, before_is}
 use Rattle.miniserde_text.proofs.Escapes.{piece_cases, escape_takes}
 

@@ -17,9 +17,9 @@ use Rattle.miniserde_model.specs.Value.{Between}
 use Rattle.miniserde_model.specs.Step.{Step, boolean, string, negative, nonnegative, float, seq, element, map, key, finish}
 use Rattle.miniserde_model.specs.Step as step
 use Rattle.miniserde_model.specs.Lexing.{Piece, Ends, Starts}
-use Rattle.miniserde_model.proofs.Runs.{AllPass}
+use Rattle.miniserde_model.proofs.LongestRuns.{AllPass}
 use Rattle.miniserde_model.proofs.Numbers.{number_pass}
-use Rattle.miniserde_model.proofs.Unique.{Head, value_head, value_heads, number_head, kind_of_byte}
+use Rattle.miniserde_model.proofs.Unique.{Head, value_head, value_heads, number_head, leading_kind}
 use Rattle.miniserde_text.specs.declared.json.lex.Event as answer
 use Rattle.miniserde_text.specs.declared.json.lex.Event.TheVariants as event
 use Rattle.miniserde_text.specs.declared.json.lex.Text.{Text}
@@ -27,8 +27,8 @@ use Rattle.miniserde_text.specs.declared.json.lex.Text.TheVariants as text
 use Rattle.miniserde_text.specs.Lexer.{event_of_token, text_of, BorrowedIfPlain, TokenBorrowedIfPlain, TokenLeavesScratch}
 use Rattle.miniserde_text.specs.Lexer.{BeginsEscaped, SpelledText, SpelledToken}
 use Rattle.miniserde_text.specs.private.Reading.{after_run, number_at, word_at, token_by, token_at}
-use Rattle.miniserde_text.specs.private.Taking.{SpellsUpToQuote, BeginsWith, TakesToken, TokenTakesText, TakesText, ReachesBackslash}
-use Rattle.miniserde_text.proofs.Runs.{stops_at, stands_of, stands_only}
+use Rattle.miniserde_text.specs.private.LexerParts.{SpellsUpToQuote, BeginsWith, TakesToken, TokenTakesText, TakesText, ReachesBackslash}
+use Rattle.miniserde_text.proofs.ByteRuns.{stops_at, stands_of, stands_only}
 use Rattle.std.proofs.lemmas.Option.{cond_some, same_Some}
 use Rattle.miniserde_text.proofs.Options.{chosen, first_byte, none_is_some}
 use Rattle.miniserde_text.proofs.Leaves.{event_of, number_piece}
@@ -167,7 +167,7 @@ string_taken cs t s r at h e = (string_leads cs t s r at h e, tt)
 no_quote : (b t r : List ℕ) (k : ℕ) → Head b k → (k ≡ 4 → ⊥) → slice_index t 0 ≡ 34 → t ≡ b ++ r → ⊥
 no_quote b t r k h away at j =
     let first : h.byte ≡ 34 = sym (ap (λ x. slice_index x 0) (j ∙ ap (λ x. x ++ r) h.is)) ∙ at in
-    away (sym h.of_kind ∙ ap kind_of_byte first)
+    away (sym h.of_kind ∙ ap leading_kind first)
 
 no_byte : (b t r : List ℕ) (c : ℕ) → b ≡ c ∷ [] → (c ≡ 34 → ⊥) → slice_index t 0 ≡ 34 → t ≡ b ++ r → ⊥
 no_byte b t r c h away at j = away (sym (ap (λ x. slice_index x 0) (j ∙ ap (λ x. x ++ r) h)) ∙ at)

@@ -12,14 +12,14 @@ use Rattle.miniserde_model.specs.declared.kind.Kind.{Kind}
 use Rattle.miniserde_model.specs.declared.kind.Kind.TheVariants.{Seq, Map}
 use Rattle.miniserde_model.specs.private.Reading.{Moment, due, first, after, Spells}
 use Rattle.miniserde_model.proofs.Prefixes.{space_ends_number}
-use Rattle.miniserde_model.proofs.Reading.{due_space, front_byte_stops, space_append, json_spells}
+use Rattle.miniserde_model.proofs.TreeEvents.{due_space, front_byte_stops, space_append, json_spells}
 use Rattle.miniserde_model.proofs.ReadBack.{spells_json}
-use Rattle.miniserde_model.proofs.Unique.{kind_of_byte, Head, known_no_space}
+use Rattle.miniserde_model.proofs.Unique.{leading_kind, Head, known_no_space}
 use Rattle.miniserde_text.specs.private.Stack.{with_opened}
-use Rattle.miniserde_text.specs.private.Moving.{opened_kind, first_or_after}
-use Rattle.miniserde_text.specs.private.Runs.{Runs}
-use Rattle.miniserde_text.proofs.Starting.{class, class_below, piece_head, name_head, stands, standing, starts_on}
-use Rattle.miniserde_text.proofs.Turning.{bare}
+use Rattle.miniserde_text.specs.private.Moments.{opened_kind, first_or_after}
+use Rattle.miniserde_text.specs.private.EventRuns.{Runs}
+use Rattle.miniserde_text.proofs.FirstEvents.{class, class_below, piece_head, name_head, stands, standing, starts_on}
+use Rattle.miniserde_text.proofs.NextChild.{bare}
 
 -- ---- from a run
 
@@ -73,14 +73,14 @@ RunsOut m es st s = (r : List ℕ) × Runs m es st s r × IsWhitespace r
 
 begins_so : (b r : List ℕ) (k : ℕ) → Head b k → k < 7 → Begins (b ++ r)
 begins_so b r k h l =
-    let small : kind_of_byte h.byte < 7 = omega (arith, h.of_kind, l) in
+    let small : leading_kind h.byte < 7 = omega (arith, h.of_kind, l) in
     record {
       byte = h.byte;
       more = h.rest ++ r;
       text = ap (λ z. z ++ r) h.is;
       no_space = known_no_space h.byte small;
-      no_list_end = λ e. omega (arith, ap kind_of_byte e, small);
-      no_members_end = λ e. omega (arith, ap kind_of_byte e, small);
+      no_list_end = λ e. omega (arith, ap leading_kind e, small);
+      no_members_end = λ e. omega (arith, ap leading_kind e, small);
     }
 
 -- the whitespace before a part, and the part without it
@@ -150,9 +150,9 @@ pub run_json : (es : List Step) (j r : List ℕ) → Runs due es [] j r → IsWh
 run_json es j r h w = spells_json es j (run_spells due es [] j r h w)
 
 -- where no container is open, no event follows a value
-pub nothing_left : (es : List Step) (s r : List ℕ) → Runs after es [] s r → (es ≡ []) × (r ≡ s)
-nothing_left [] s r p = (refl, p)
-nothing_left (e ∷ es) s r p = absurd (go e p)
+pub no_events_left : (es : List Step) (s r : List ℕ) → Runs after es [] s r → (es ≡ []) × (r ≡ s)
+no_events_left [] s r p = (refl, p)
+no_events_left (e ∷ es) s r p = absurd (go e p)
   where
     go : (d : Step) → Runs after (d ∷ es) [] s r → ⊥
     go element q = q

@@ -1,6 +1,6 @@
 pub mod Escape
-pub mod Taking
-pub mod Moving
+pub mod LexerParts
+pub mod Moments
 pub mod Reading
 pub mod Stack
-pub mod Runs
+pub mod EventRuns

@@ -15,9 +15,9 @@ use Rattle.miniserde_model.specs.declared.kind.Kind.TheVariants as kind
 use Rattle.miniserde_text.specs.declared.json.lex.Event as token
 use Rattle.miniserde_text.specs.declared.json.lex.Event.TheVariants as variant
 use Rattle.miniserde_text.specs.private.Stack.{with_opened, outer, innermost as innermost_kind}
-use Rattle.miniserde_text.specs.private.Moving.{opened_kind, first_or_after, MomentFits}
+use Rattle.miniserde_text.specs.private.Moments.{opened_kind, first_or_after, MomentFits}
 use Rattle.miniserde_read.specs.Rest.{ValueAt}
-use Rattle.miniserde_text.specs.private.Runs.{Runs, Consumes, NeverRuns}
+use Rattle.miniserde_text.specs.private.EventRuns.{Runs, Consumes, NeverRuns}
 use Rattle.miniserde_text.proofs.Consumes.{Consumes-none, Consumes-append, close_passed, element_passed, key_passed}
 use Rattle.miniserde_text.proofs.Consumes.{value_passed, live_opened}
 use Rattle.miniserde_read.proofs.Values.{value_later, whole_at}
@@ -25,7 +25,7 @@ use Rattle.miniserde_value.specs.Hole.{Hole, outside, in_list, in_members, has_m
 use Rattle.miniserde_value.specs.Hole.{complete_tree, after_begin, after_step, repeats, outcome}
 use Rattle.miniserde_value.specs.Retained.{retained_tree, retained_if}
 use Rattle.miniserde_value.specs.Containers.{innermost, pending, with_next_name}
-use Rattle.miniserde_value.specs.laws.Unique.{gives-kept}
+use Rattle.miniserde_value.specs.laws.Unique.{gives-retained}
 use Rattle.miniserde_value.specs.private.Builds.{ReaderState, state_before, state_due, outcome_at, Builds, HoleAdvancesBy}
 use Rattle.miniserde_value.specs.private.Builds.{NeverGives, kinds, is_due}
 
@@ -333,7 +333,7 @@ read_ok once x scratch {s = s} {r = r} false (outside ts) i p =
     → HoleAdvancesBy o (state_before (is_some (opened_kind e)) h s) done (state_before false (outside ts) r)
     → complete_tree (outside ts) ≡ retained_if o w.tree = λ o makes.
     sym (makes []) ∙ ap (λ z. outcome o z h (done ++ [])) (not_due (is_some (opened_kind e))) ∙ ap (outcome o false h) (append-nil done)
-    ∙ sym (start_makes o e (outside []) h p.is_hole done) ∙ ap (outcome o true (outside [])) w.is ∙ gives-kept o w.tree in
+    ∙ sym (start_makes o e (outside []) h p.is_hole done) ∙ ap (outcome o true (outside [])) w.is ∙ gives-retained o w.tree in
     (w.tree, w.is_value, ends false p.builds.makes, ends once p.builds.repeats_none)
 read_ok once x scratch f (in_list ts g) i p = absurd (cc)
 read_ok once x scratch f (in_members ms n g) i p = absurd (cc)
@@ -346,5 +346,5 @@ read_none once {e = e} {s = s} p n t r v =
     let l = value_later t e s r v in
     let none = never_behind once p.builds n l.later r
     (subst (λ z. Runs (first_or_after (is_some (opened_kind e))) l.later z s r) (sym (kinds_begun e (outside []) h p.is_hole)) l.runs) in
-    sym (gives-kept once t) ∙ ap (outcome once true (outside [])) l.is ∙ start_makes once e (outside []) h p.is_hole l.later
+    sym (gives-retained once t) ∙ ap (outcome once true (outside [])) l.is ∙ start_makes once e (outside []) h p.is_hole l.later
     ∙ ap (λ z. outcome once z h l.later) (sym (not_due (is_some (opened_kind e)))) ∙ none

@@ -8,21 +8,21 @@ use Rattle.miniserde_value.specs.laws.Listed.{listed, trees_listed, put_retained
 use Rattle.miniserde_value.specs.Visits.{TreeVisit, list_ends, members_end, visits, child_visits, member_visits, hole_after}
 
 mutual
-  pub built_fronts : (h : Hole) (t : Tree) (rest : List TreeVisit)
+  pub built_visits : (h : Hole) (t : Tree) (rest : List TreeVisit)
       → hole_after h (visits t rest) ≡ hole_after (put (retained_tree t) h) rest
-  built_fronts h (list ts) rest =
+  built_visits h (list ts) rest =
       built_children ts [] h (list_ends ∷ rest) ∙ ap (λ z. hole_after (put (list z) h) rest)
       (trees_listed (retained_children ts))
-  built_fronts h (members ms) rest = built_members ms no_members h (members_end ∷ rest)
+  built_visits h (members ms) rest = built_members ms no_members h (members_end ∷ rest)
       ∙ ap (λ z. hole_after (put (members z) h) rest) (puts_retained ms)
-  built_fronts h _ rest = refl
+  built_visits h _ rest = refl
 
   pub built_children : (ts : Trees) (us : List Tree) (h : Hole) (rest : List TreeVisit)
       → hole_after (in_list us h) (child_visits ts rest)
       ≡ hole_after (in_list (us ++ listed (retained_children ts)) h) rest
   built_children no_trees us h rest = ap (λ z. hole_after (in_list z h) rest) (sym (append-nil us))
   built_children (tree t ts) us h rest =
-      built_fronts (in_list us h) t (child_visits ts rest)
+      built_visits (in_list us h) t (child_visits ts rest)
       ∙ built_children ts (us ++ retained_tree t ∷ []) h rest
       ∙ ap (λ z. hole_after (in_list z h) rest) (append_assoc us (retained_tree t ∷ []) (listed (retained_children ts)))
 
@@ -30,5 +30,5 @@ mutual
       → hole_after (in_members made None h) (member_visits ms rest)
       ≡ hole_after (in_members (put_retained made ms) None h) rest
   built_members no_members made h rest = refl
-  built_members (member n t ms) made h rest = built_fronts (in_members made (Some n) h) t (member_visits ms rest)
+  built_members (member n t ms) made h rest = built_visits (in_members made (Some n) h) t (member_visits ms rest)
       ∙ built_members ms (put_member n (retained_tree t) made) h rest

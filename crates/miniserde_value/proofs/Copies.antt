@@ -7,7 +7,7 @@ use Rattle.miniserde_value.specs.declared.json.object.Object.{Object}
 use Rattle.miniserde_value.specs.Values.{content_of, array_content, object_content}
 use Rattle.miniserde_value.specs.Hole.{Hole, outside, in_list, in_members, complete_tree}
 use Rattle.miniserde_value.specs.Visits.{TreeVisit, leaf, list_begins, members_begin, name, visits, hole_after, IsOrdered}
-use Rattle.miniserde_value.proofs.Built.{built_fronts}
+use Rattle.miniserde_value.proofs.Built.{built_visits}
 use Rattle.miniserde_value.proofs.RetainedTrees.{kept_ordered}
 
 -- the first front is built first
@@ -17,8 +17,8 @@ built_first h (name n) fs = refl
 built_first h _ fs = refl
 
 -- the fronts of a tree in order give the tree
-whole_fronts : (t : Tree) → IsOrdered t → complete_tree (hole_after (outside []) (visits t [])) ≡ Some t
-whole_fronts t o = ap complete_tree (built_fronts (outside []) t []) ∙ ap (λ (u : Tree). Some u) (kept_ordered t o)
+whole_visits : (t : Tree) → IsOrdered t → complete_tree (hole_after (outside []) (visits t [])) ≡ Some t
+whole_visits t o = ap complete_tree (built_visits (outside []) t []) ∙ ap (λ (u : Tree). Some u) (kept_ordered t o)
 
 -- a builder that opens and then adds all that a walk over an array or an object meets has its tree
 pub array_copied : (r : Option Value) (a : Array) {opened filled : Hole} {fs : List TreeVisit}
@@ -27,7 +27,7 @@ pub array_copied : (r : Option Value) (a : Array) {opened filled : Hole} {fs : L
     → option_map content_of r ≡ Some (array_content a)
 array_copied r a {fs = fs} whole_is filled_is opened_is fs_is o =
     whole_is ∙ ap complete_tree filled_is ∙ ap (λ h. complete_tree (hole_after h fs)) opened_is
-    ∙ ap (λ gs. complete_tree (hole_after (outside []) gs)) fs_is ∙ whole_fronts (array_content a) o
+    ∙ ap (λ gs. complete_tree (hole_after (outside []) gs)) fs_is ∙ whole_visits (array_content a) o
 
 -- a builder that opens an object and takes the other visits of an ordered object gives its tree
 pub object_copied : (r : Option Value) (m : Object) {opened filled : Hole} {fs : List TreeVisit}
@@ -36,4 +36,4 @@ pub object_copied : (r : Option Value) (m : Object) {opened filled : Hole} {fs :
     → option_map content_of r ≡ Some (object_content m)
 object_copied r m {fs = fs} whole_is filled_is opened_is fs_is o =
     whole_is ∙ ap complete_tree filled_is ∙ ap (λ h. complete_tree (hole_after h fs)) opened_is
-    ∙ ap (λ gs. complete_tree (hole_after (outside []) gs)) fs_is ∙ whole_fronts (object_content m) o
+    ∙ ap (λ gs. complete_tree (hole_after (outside []) gs)) fs_is ∙ whole_visits (object_content m) o

@@ -6,7 +6,7 @@ pub mod Ordered
 pub mod Trees
 pub mod ContentTrees
 pub mod Costs
-pub mod Turns
+pub mod DropLooks
 pub mod Replaced
 pub mod Lasts
 pub mod Containers

@@ -8,7 +8,7 @@ use Rattle.miniserde_text.specs.declared.json.lex.Event.{Event}
 use Rattle.miniserde_text.specs.declared.json.lex.Event.TheVariants as token
 use Rattle.miniserde_read.specs.Rest.{ValueAt}
 use Rattle.miniserde_value.specs.Retained.{retained_tree}
-use Rattle.miniserde_value.specs.Kinds.{only_list, only_members}
+use Rattle.miniserde_value.specs.OnlyContainers.{only_list, only_members}
 
 opens_list : (x : Event) (scratch : List ℕ) → event_of_token x scratch ≡ seq → x ≡ token.SeqStart
 opens_list token.SeqStart scratch e = refl

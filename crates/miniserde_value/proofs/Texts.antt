@@ -33,22 +33,22 @@ closing : (a rest : List ℕ) (x : ℕ) → a ++ x ∷ rest ≡ (a ++ x ∷ []) 
 closing a rest x = sym (append_assoc a (x ∷ []) rest)
 
 mutual
-  pub text_fronts : (t : Tree) → IsOrdered t → (rest : List TreeVisit)
+  pub text_visits : (t : Tree) → IsOrdered t → (rest : List TreeVisit)
       → visits_text false (visits t rest) ≡ compact (norm t) ++ visits_text false rest
-  text_fronts (list ts) h rest =
+  text_visits (list ts) h rest =
       ap (λ z. 91 ∷ z) (text_children ts h rest ∙ closing (compact_children (norm_children ts))
       (visits_text false rest) 93)
-  text_fronts (members ms) h rest =
+  text_visits (members ms) h rest =
       ap (λ z. 123 ∷ z) (text_members ms h.0 h.1 rest ∙ closing (compact_members (norm_members ms))
       (visits_text false rest) 125)
-  text_fronts _ h rest = refl
+  text_visits _ h rest = refl
 
   pub text_children : (ts : Trees) → AreOrdered ts → (rest : List TreeVisit)
       → visits_text true (child_visits ts (list_ends ∷ rest)) ≡ compact_children (norm_children ts)
       ++ 93 ∷ visits_text false rest
   text_children no_trees h rest = refl
   text_children (tree t ts) h rest =
-      text_fronts t h.0 (child_visits ts (list_ends ∷ rest))
+      text_visits t h.0 (child_visits ts (list_ends ∷ rest))
       ∙ ap (λ z. compact (norm t) ++ z) (text_more ts h.1 (list_ends ∷ rest))
       ∙ sym (append_assoc (compact (norm t)) (compact_more (norm_children ts)) (93 ∷ visits_text false rest))
 
@@ -56,7 +56,7 @@ mutual
       ≡ compact_more (norm_children ts) ++ visits_text false rest
   text_more no_trees h rest = refl
   text_more (tree t ts) h rest =
-      ap (λ z. 44 ∷ z) (text_fronts t h.0 (child_visits ts rest)
+      ap (λ z. 44 ∷ z) (text_visits t h.0 (child_visits ts rest)
       ∙ ap (λ z. compact (norm t) ++ z) (text_more ts h.1 rest)
       ∙ sym (append_assoc (compact (norm t)) (compact_more (norm_children ts)) (visits_text false rest)))
 
@@ -66,7 +66,7 @@ mutual
   text_members no_members r h rest = refl
   text_members (member n t ms) r h rest =
       ap (λ z. (string_text n ++ 58 ∷ []) ++ z)
-      (text_fronts t h.0 (member_visits ms (members_end ∷ rest)) ∙ ap (λ z. compact (norm t) ++ z)
+      (text_visits t h.0 (member_visits ms (members_end ∷ rest)) ∙ ap (λ z. compact (norm t) ++ z)
       (text_more_members ms r.1 h.1 (members_end ∷ rest)))
       ∙ named_text (string_text n) (compact (norm t)) (compact_more_members (norm_members ms)) (125 ∷ visits_text false rest)
       ∙ ap (λ z. compact_members z ++ 125 ∷ visits_text false rest) (sym (norm_first n t ms r))
@@ -76,7 +76,7 @@ mutual
   text_more_members no_members r h rest = refl
   text_more_members (member n t ms) r h rest =
       ap (λ z. 44 ∷ ((string_text n ++ 58 ∷ []) ++ z))
-      (text_fronts t h.0 (member_visits ms rest) ∙ ap (λ z. compact (norm t) ++ z)
+      (text_visits t h.0 (member_visits ms rest) ∙ ap (λ z. compact (norm t) ++ z)
       (text_more_members ms r.1 h.1 rest))
       ∙ ap (λ z. 44 ∷ z) (named_text (string_text n) (compact (norm t)) (compact_more_members (norm_members ms)) (visits_text false rest))
       ∙ ap (λ z. compact_more_members z ++ visits_text false rest) (sym (norm_first n t ms r))
@@ -89,28 +89,28 @@ text_begins b _ = refl
 
 -- the visits of an ordered tree have the compact text of its normal form
 pub text_whole : (b : Bool) (t : Tree) → IsOrdered t → visits_text b (visits t []) ≡ compact (norm t)
-text_whole b t h = text_begins b t ∙ text_fronts t h [] ∙ append-nil (compact (norm t))
+text_whole b t h = text_begins b t ∙ text_visits t h [] ∙ append-nil (compact (norm t))
 
 -- ---- the trees in range
 
 mutual
-  pub fronts_tree : (t : Tree) (rest : List TreeVisit) → VisitsInRange (visits t rest) → InRange (norm t) × VisitsInRange rest
-  fronts_tree (list ts) rest h = fronts_trees ts (list_ends ∷ rest) h
-  fronts_tree (members ms) rest h = fronts_named ms (members_end ∷ rest) h
-  fronts_tree _ rest h = h
+  pub visits_tree : (t : Tree) (rest : List TreeVisit) → VisitsInRange (visits t rest) → InRange (norm t) × VisitsInRange rest
+  visits_tree (list ts) rest h = visits_trees ts (list_ends ∷ rest) h
+  visits_tree (members ms) rest h = visits_members ms (members_end ∷ rest) h
+  visits_tree _ rest h = h
 
-  pub fronts_trees : (ts : Trees) (rest : List TreeVisit) → VisitsInRange (child_visits ts rest)
+  pub visits_trees : (ts : Trees) (rest : List TreeVisit) → VisitsInRange (child_visits ts rest)
       → AllInRange (norm_children ts) × VisitsInRange rest
-  fronts_trees no_trees rest h = (tt, h)
-  fronts_trees (tree t ts) rest h =
-      let one = fronts_tree t (child_visits ts rest) h in
-      let more = fronts_trees ts rest one.1 in
+  visits_trees no_trees rest h = (tt, h)
+  visits_trees (tree t ts) rest h =
+      let one = visits_tree t (child_visits ts rest) h in
+      let more = visits_trees ts rest one.1 in
       ((one.0, more.0), more.1)
 
-  pub fronts_named : (ms : Members) (rest : List TreeVisit) → VisitsInRange (member_visits ms rest)
+  pub visits_members : (ms : Members) (rest : List TreeVisit) → VisitsInRange (member_visits ms rest)
       → MembersInRange (norm_members ms) × VisitsInRange rest
-  fronts_named no_members rest h = (tt, h)
-  fronts_named (member n t ms) rest h =
-      let one = fronts_tree t (member_visits ms rest) h.1 in
-      let more = fronts_named ms rest one.1 in
+  visits_members no_members rest h = (tt, h)
+  visits_members (member n t ms) rest h =
+      let one = visits_tree t (member_visits ms rest) h.1 in
+      let more = visits_members ms rest one.1 in
       (trees_with_first n (norm t) (norm_members ms) h.0 one.0 more.0, more.1)

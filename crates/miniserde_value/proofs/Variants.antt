@@ -12,7 +12,7 @@ use Rattle.miniserde_value.specs.declared.json.array.Array.{Array}
 use Rattle.miniserde_value.specs.declared.json.object.Object.{Object}
 use Rattle.miniserde_value.specs.Numbers.{number_leaf}
 use Rattle.miniserde_value.specs.Values.{content_of, array_content, object_content}
-use Rattle.miniserde_value.specs.Kinds.{only_list, only_members}
+use Rattle.miniserde_value.specs.OnlyContainers.{only_list, only_members}
 use Rattle.miniserde_value.proofs.ContentTrees.{content_of_null, content_of_bool, content_of_number}
 use Rattle.miniserde_value.proofs.ContentTrees.{content_of_string, content_of_array, content_of_object}
 

@@ -29,10 +29,10 @@ use Rattle.miniserde_value.proofs.Ordered.{ordered_rises}
 
 -- ---- the first front of a value
 
-number_fronts : (n : Number) (rest : List TreeVisit) → visits (number_leaf n) rest ≡ leaf (number_leaf n) ∷ rest
-number_fronts (number.U64 n) rest = refl
-number_fronts (number.I64 z) rest = refl
-number_fronts (number.Text x) rest = refl
+number_visits : (n : Number) (rest : List TreeVisit) → visits (number_leaf n) rest ≡ leaf (number_leaf n) ∷ rest
+number_visits (number.U64 n) rest = refl
+number_visits (number.I64 z) rest = refl
+number_visits (number.Text x) rest = refl
 
 number_ordered : (n : Number) → IsOrdered (number_leaf n)
 number_ordered (number.U64 n) = tt
@@ -55,7 +55,7 @@ begin_bool v b rest e = at_content v (truth b) rest _ (ap content_of e ∙ conte
 -- the one visit of a number is its leaf
 pub begin_number : (v : Value) (n : Number) (rest : List TreeVisit) → v ≡ value.Number n
     → visits (content_of v) rest ≡ leaf (number_leaf n) ∷ rest
-begin_number v n rest e = at_content v (number_leaf n) rest _ (ap content_of e ∙ content_of_number n) (number_fronts n rest)
+begin_number v n rest e = at_content v (number_leaf n) rest _ (ap content_of e ∙ content_of_number n) (number_visits n rest)
 
 -- the one visit of a string is its leaf
 pub begin_string : (v : Value) (s : String Global) (rest : List TreeVisit) → v ≡ value.String s

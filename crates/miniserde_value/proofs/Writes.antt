@@ -10,8 +10,8 @@ use Rattle.miniserde_model.specs.Normal.{norm}
 use Rattle.miniserde_ser.specs.Writer.{WriterView, after_append}
 use Rattle.miniserde_value.specs.Visits.{TreeVisit, leaf, visits, visits_text, first_flag_after, VisitsInRange, IsOrdered}
 use Rattle.miniserde_value.specs.Writes.{Writes}
-use Rattle.miniserde_value.proofs.Texts.{text_whole, fronts_tree}
-use Rattle.miniserde_value.proofs.Written.{fronts_before, first_before, first_fronts}
+use Rattle.miniserde_value.proofs.Texts.{text_whole, visits_tree}
+use Rattle.miniserde_value.proofs.Written.{in_range_before, first_before, first_visits}
 
 -- from `old` to `new`, the writer wrote the visit m, and no call failed
 record WroteVisit (old : WriterView) (m : TreeVisit) (new : WriterView) : Type 0 where
@@ -27,7 +27,7 @@ wrote : (old : WriterView) (m : TreeVisit) (new : WriterView) (after : List Tree
 wrote old m new after w = record {
   text = w.text after;
   first = ap (λ b. first_flag_after b after) w.first ∙ first_before old.first m after;
-  are_visits = λ h. fronts_before m after w.is_visit h;
+  are_visits = λ h. in_range_before m after w.is_visit h;
   shorter = omega arith;
   was_running = w.was_running;
   unrefused = w.unrefused;
@@ -74,9 +74,9 @@ text_wrote t old mid new left w o =
 
 -- if a tree was written, its normal form is in range
 pub tree_wrote : (t : Tree) (old mid new : WriterView) (left : List TreeVisit) → Wrote t old mid new left → InRange (norm t)
-tree_wrote t old mid new left w = (fronts_tree t [] (w.begun.are_visits (w.ended.are_visits tt))).0
+tree_wrote t old mid new left w = (visits_tree t [] (w.begun.are_visits (w.ended.are_visits tt))).0
 
 -- if the flag `first` of the writer was false before a tree was written, it is false after it
 pub first_wrote : (t : Tree) (old mid new : WriterView) (left : List TreeVisit) → Wrote t old mid new left
     → old.first ≡ false → new.first ≡ false
-first_wrote t old mid new left w e = w.ended.first ∙ w.begun.first ∙ ap (λ b. first_flag_after b (visits t [])) e ∙ first_fronts t []
+first_wrote t old mid new left w e = w.ended.first ∙ w.begun.first ∙ ap (λ b. first_flag_after b (visits t [])) e ∙ first_visits t []

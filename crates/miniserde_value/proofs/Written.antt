@@ -9,10 +9,10 @@ use Rattle.miniserde_value.specs.Visits.{member_visits, first_flag_after, Visits
 -- ---- one front, and then others
 
 -- if one visit is in range and the later ones are, all of them are
-pub fronts_before : (m : TreeVisit) (rest : List TreeVisit) → VisitsInRange (m ∷ []) → VisitsInRange rest → VisitsInRange (m ∷ rest)
-fronts_before (leaf t) rest h r = (h.0, r)
-fronts_before (name n) rest h r = (h.0, r)
-fronts_before _ rest h r = r
+pub in_range_before : (m : TreeVisit) (rest : List TreeVisit) → VisitsInRange (m ∷ []) → VisitsInRange rest → VisitsInRange (m ∷ rest)
+in_range_before (leaf t) rest h r = (h.0, r)
+in_range_before (name n) rest h r = (h.0, r)
+in_range_before _ rest h r = r
 
 -- the flag after a visit and then others is the flag after all of them
 pub first_before : (b : Bool) (m : TreeVisit) (rest : List TreeVisit)
@@ -24,20 +24,20 @@ first_before b _ rest = refl
 -- ---- behind a tree the next element or member is not the first, where it was not before
 
 mutual
-  pub first_fronts : (t : Tree) (rest : List TreeVisit) → first_flag_after false (visits t rest) ≡ first_flag_after false rest
-  first_fronts (list ts) rest = first_children ts true rest
-  first_fronts (members ms) rest = first_members ms true rest
-  first_fronts _ rest = refl
+  pub first_visits : (t : Tree) (rest : List TreeVisit) → first_flag_after false (visits t rest) ≡ first_flag_after false rest
+  first_visits (list ts) rest = first_children ts true rest
+  first_visits (members ms) rest = first_members ms true rest
+  first_visits _ rest = refl
 
   first_children : (ts : Trees) (b : Bool) (rest : List TreeVisit)
       → first_flag_after b (child_visits ts (list_ends ∷ rest)) ≡ first_flag_after false rest
   first_children no_trees b rest = refl
-  first_children (tree t ts) b rest = first_fronts t (child_visits ts (list_ends ∷ rest)) ∙ first_children ts false rest
+  first_children (tree t ts) b rest = first_visits t (child_visits ts (list_ends ∷ rest)) ∙ first_children ts false rest
 
   first_members : (ms : Members) (b : Bool) (rest : List TreeVisit)
       → first_flag_after b (member_visits ms (members_end ∷ rest)) ≡ first_flag_after false rest
   first_members no_members b rest = refl
-  first_members (member n t ms) b rest = first_fronts t (member_visits ms (members_end ∷ rest)) ∙ first_members ms false rest
+  first_members (member n t ms) b rest = first_visits t (member_visits ms (members_end ∷ rest)) ∙ first_members ms false rest
 
 -- two facts of an `Ok` make a third
 pub on_ok_both : {T E P R Q : Type 0} (r : Result T E) → (P → R → Q) → OnOk r P → OnOk r R → OnOk r Q

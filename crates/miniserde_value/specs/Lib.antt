@@ -9,7 +9,7 @@ pub mod Containers
 pub mod Builders
 pub mod Walks
 pub mod Writes
-pub mod Kinds
+pub mod OnlyContainers
 pub mod Meanings
 pub mod laws
 pub mod private

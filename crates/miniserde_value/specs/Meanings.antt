@@ -12,8 +12,8 @@ use Rattle.miniserde_value.specs.declared.json.object.Object.{Object}
 use Rattle.miniserde_value.specs.declared.json.unique.Unique.{Unique}
 use Rattle.miniserde_value.specs.declared.json.document.Document.{Document}
 use Rattle.miniserde_value.specs.Retained.{retained_tree, retained_if}
-use Rattle.miniserde_value.specs.Kinds.{only_list, only_members}
-use Rattle.miniserde_value.specs.Numbers.{number_leaf, number_of, ReadsNumber}
+use Rattle.miniserde_value.specs.OnlyContainers.{only_list, only_members}
+use Rattle.miniserde_value.specs.Numbers.{number_leaf, if_number, ReadsNumber}
 use Rattle.miniserde_value.specs.Values.{content_of, tree_of, ReadsValue, array_items, object_entries, array_content, object_content}
 use Rattle.miniserde_value.specs.laws.Numbers.{number-given}
 use Rattle.miniserde_value.specs.laws.Documents.{document-given}
@@ -22,7 +22,7 @@ use Rattle.miniserde_value.specs.laws.Unique.{once-agrees}
 
 -- the meaning of a `Number`: the leaf of a number means that number
 abbrev pub number_meaning : Meaning Number
-number_meaning = meaning_with number_leaf number_of ReadsNumber number-given
+number_meaning = meaning_with number_leaf if_number ReadsNumber number-given
 
 -- the meaning of a `Value`: every tree means the values whose content is the retained tree
 abbrev pub value_meaning : Meaning Value

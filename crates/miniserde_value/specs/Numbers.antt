@@ -12,11 +12,11 @@ number_leaf (I64 z) = neg z
 number_leaf (Text x) = num x
 
 -- the tree itself, if it is the leaf of a number
-abbrev pub number_of : Tree → Option Tree
-number_of (nonneg n) = Some (nonneg n)
-number_of (neg z) = Some (neg z)
-number_of (num x) = Some (num x)
-number_of _ = None
+abbrev pub if_number : Tree → Option Tree
+if_number (nonneg n) = Some (nonneg n)
+if_number (neg z) = Some (neg z)
+if_number (num x) = Some (num x)
+if_number _ = None
 
 -- the tree means the number v: an integer without a minus is a `U64`, one with a minus an `I64`, and a number text a
 -- `Text`

@@ -14,7 +14,7 @@ use Rattle.miniserde.specs.Marks.{is_among}
 use Rattle.miniserde_record.specs.laws.Left.{left, left-append}
 use Rattle.refused.specs.Agree.{AgreeAt}
 use Rattle.refused.specs.Ways.{IsWay, IsWrongFrom, LeadsOn}
-use Rattle.refused.specs.Wrong.{FieldIsWrong, Gives, alone, any_object, are_apart, field_gives, fields_of, first_name}
+use Rattle.refused.specs.Wrong.{FieldIsWrong, Gives, alone, object_gives, are_apart, field_gives, fields_of, first_alone}
 use Rattle.refused.specs.Wrong.{later_names, name_or_empty, optional_gives}
 use Rattle.refused.specs.laws.Alone.{none-some, alone-both, alone-depends}
 use Rattle.refused.specs.laws.Ways.{agree-turn}
@@ -126,7 +126,7 @@ later-apart before (n ∷ ns) a = (both (is_among before n) (are_apart (before +
 module _ {C S D : Type 0} (once : Bool) (absent : Option C) (of : Tree → Option C) (rest : List Name → S → Members → Option D)
     (empty : S) where
   members-all : (before names : List Name) → are_apart before names ≡ true → (ms : Members)
-      → IsSome (alone once absent of (first_name names) (members ms))
+      → IsSome (alone once absent of (first_alone names) (members ms))
       → IsSome (rest (later_names names) empty (left (before_later before names) ms))
       → IsSome (fields_content once of absent rest names (None, empty) (left before ms))
   members-all before [] a ms o l = beside (option_or None absent) (rest [] empty (left before ms)) o l
@@ -139,7 +139,7 @@ module _ {C S D : Type 0} (once : Bool) (absent : Option C) (of : Tree → Optio
 
   members-own : (before names : List Name) → are_apart before names ≡ true → (ms : Members)
       → IsSome (fields_content once of absent rest names (None, empty) (left before ms))
-      → IsSome (alone once absent of (first_name names) (members ms))
+      → IsSome (alone once absent of (first_alone names) (members ms))
   members-own before [] a ms h = beside-own (option_or None absent) (rest [] empty (left before ms)) h
   members-own before (n ∷ ns) a ms h =
       let b = both (is_among before n) (are_apart (before ++ n ∷ []) ns) a in
@@ -170,7 +170,7 @@ module _ {C S D : Type 0} (once : Bool) (absent : Option C) (of : Tree → Optio
   all_fields = fields_of (fields_content once of absent rest) (None, empty) before names
 
   abbrev own_field : Tree → Option (C × Unit {0})
-  own_field = alone once absent of (first_name names)
+  own_field = alone once absent of (first_alone names)
 
   abbrev later_fields : Tree → Option D
   later_fields = fields_of rest empty (before_later before names) (later_names names)
@@ -190,8 +190,8 @@ module _ {C S D : Type 0} (once : Bool) (absent : Option C) (of : Tree → Optio
   module _ {gives : Gives} {here : List Name} (way : IsWay gives here) where
     -- a place that gives a content of the field, and one of the later ones if they are right, gives one of all
     pub field-right : (Right : Tree → Type 0)
-        → ((t : Tree) → gives (Unit {0}) any_object t → Right t → gives D later_fields t) → (t : Tree)
-        → gives (Unit {0}) any_object t → gives (C × Unit {0}) own_field t × Right t → gives (C × D) all_fields t
+        → ((t : Tree) → gives (Unit {0}) object_gives t → Right t → gives D later_fields t) → (t : Tree)
+        → gives (Unit {0}) object_gives t → gives (C × Unit {0}) own_field t × Right t → gives (C × D) all_fields t
     field-right Right later t o h = way.both own_field later_fields all_fields all-from t h.0 (later t o h.1)
 
     -- what keeps the field from a content, and what keeps the later ones from theirs, keeps all from one
@@ -217,17 +217,17 @@ module _ {C S D : Type 0} (once : Bool) (absent : Option C) (of : Tree → Optio
 
     -- The field stands in each document that agrees with one at a path that leads on from it, if it stands there. So
     -- what keeps its tree from a content keeps the field from one, whatever a missing field means.
-    within-wrong : (path : List Name) (t : Tree) → field_gives gives names (Unit {0}) any_object t
+    within-wrong : (path : List Name) (t : Tree) → field_gives gives names (Unit {0}) object_gives t
         → IsWrongFrom (field_gives gives names) (here ++ name_or_empty names ∷ []) of path t
         → IsWrongFrom gives here all_fields path t
     within-wrong path t o h =
-        let there = way.both (alone false None any_object (first_name names)) (alone false None any_object (first_name names))
-        (alone false None any_tree (first_name names))
-        (alone-both false false None None None any_object any_object any_tree names (λ t p q. refl) (λ p q. p)) t o o in (
+        let there = way.both (alone false None object_gives (first_alone names)) (alone false None object_gives (first_alone names))
+        (alone false None any_tree (first_alone names))
+        (alone-both false false None None None object_gives object_gives any_tree names (λ t p q. refl) (λ p q. p)) t o o in (
           leads-on here names path h.0,
-          λ u a g. h.1 u a (way.both all_fields (alone false None any_tree (first_name names)) (alone false None of (first_name names))
+          λ u a g. h.1 u a (way.both all_fields (alone false None any_tree (first_alone names)) (alone false None of (first_alone names))
               (λ t p q. alone-both once false absent None None of any_tree of names (λ t p q. p) (λ p q. q) t (own-from t p) q) u g
-              (way.depends (alone false None any_tree (first_name names)) (name_or_empty names ∷ h.0.0 ∷ h.0.1)
+              (way.depends (alone false None any_tree (first_alone names)) (name_or_empty names ∷ h.0.0 ∷ h.0.1)
               (alone-depends false None any_tree names (h.0.0 ∷ h.0.1) (λ t u a s. refl)) t u
               (subst (λ p. AgreeAt p t u) (leads-on here names path h.0).2 a) there)),
         )
@@ -237,7 +237,7 @@ module _ {C S D : Type 0} (once : Bool) (absent : Option C) (of : Tree → Optio
         → (I → IsWrongFrom (field_gives gives names) (here ++ name_or_empty names ∷ []) of path t)
         → (L → IsWrongFrom gives here later_fields path t)
         → ((FieldIsWrong gives here (alone once absent of) names path t × M)
-        ⊎ (field_gives gives names (Unit {0}) any_object t × I)) ⊎ (X × L)
+        ⊎ (field_gives gives names (Unit {0}) object_gives t × I)) ⊎ (X × L)
         → IsWrongFrom gives here all_fields path t
     into-wrong path t inner later (inl (inl w)) = field-wrong path t w.0
     into-wrong path t inner later (inl (inr w)) = within-wrong path t w.0 (inner w.1)
@@ -256,7 +256,7 @@ module _ {C S D : Type 0} (once : Bool) (absent : Option (Option C)) (of : Tree 
       → IsWrongFrom gives here all_optional path t
   optional-wrong path t h = (
     leads-on here names path h.0,
-    λ u a g. h.1 u a (way.both all_optional all_optional (alone false (Some None) (option_of of) (first_name names))
+    λ u a g. h.1 u a (way.both all_optional all_optional (alone false (Some None) (option_of of) (first_alone names))
         (λ t p q. let o = own-from once absent (option_of of) rest empty before names apart t p in
         alone-both once once absent absent (Some None) (option_of of) (option_of of) (option_of of) names (λ t p q. p) (λ p q. refl)
         t o o) u g g),

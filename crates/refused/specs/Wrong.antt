@@ -13,9 +13,9 @@ use Rattle.miniserde.specs.Structs.{are_distinct}
 use Rattle.miniserde_record.specs.laws.Left.{left}
 
 -- the first name alone, if there is one
-abbrev pub first_name : List Name → List Name
-first_name [] = []
-first_name (n ∷ ns) = n ∷ []
+abbrev pub first_alone : List Name → List Name
+first_alone [] = []
+first_alone (n ∷ ns) = n ∷ []
 
 -- the first name, or the empty one if there is none
 abbrev pub name_or_empty : List Name → Name
@@ -48,15 +48,15 @@ document_gives C of t = IsSome (of t)
 
 -- what stands in the field of the first name gives a content
 abbrev pub field_gives : Gives → List Name → Gives
-field_gives gives names C of t = gives (C × Unit {0}) (alone false None of (first_name names)) t
+field_gives gives names C of t = gives (C × Unit {0}) (alone false None of (first_alone names)) t
 
 -- what stands in the field of the first name gives a content, or it is missing or null
 abbrev pub optional_gives : Gives → List Name → Gives
-optional_gives gives names C of t = gives (Option C × Unit {0}) (alone false (Some None) (option_of of) (first_name names)) t
+optional_gives gives names C of t = gives (Option C × Unit {0}) (alone false (Some None) (option_of of) (first_alone names)) t
 
 -- what any object gives
-abbrev pub any_object : Tree → Option (Unit {0})
-any_object = object_of (λ _. Some (tt {0}))
+abbrev pub object_gives : Tree → Option (Unit {0})
+object_gives = object_of (λ _. Some (tt {0}))
 
 -- the content that the members of an object give of fields, without the members of the names `before`
 abbrev pub fields_of : {S D : Type 0} → (List Name → S → Members → Option D) → S → List Name → List Name → Tree → Option D
@@ -64,11 +64,11 @@ fields_of from_members empty before names = object_of (λ ms. from_members names
 
 -- the path leads from the place at `here` to the field of the first name, which has no value there
 abbrev pub FieldIsWrong : {C : Type 0} → Gives → List Name → (List Name → Tree → Option C) → List Name → List Name → Tree → Type 0
-FieldIsWrong {C} gives here of names path t = (path ≡ here ++ name_or_empty names ∷ []) × (gives C (of (first_name names)) t → ⊥)
+FieldIsWrong {C} gives here of names path t = (path ≡ here ++ name_or_empty names ∷ []) × (gives C (of (first_alone names)) t → ⊥)
 
 -- what stands at the place is no object, or has a value of each field by itself
 abbrev pub IsNoMore : Gives → (Gives → Tree → Type 0) → Tree → Type 0
-IsNoMore gives right t = (gives (Unit {0}) any_object t → ⊥) ⊎ right gives t
+IsNoMore gives right t = (gives (Unit {0}) object_gives t → ⊥) ⊎ right gives t
 
 -- The path leads to the field of the first name, which has no value, though it is no object or each field within it has
 -- a value by itself (`right`). Or what stands in the field gives any object, and the path leads to a field within it
@@ -77,14 +77,14 @@ abbrev pub IsWrongWithin : {C : Type 0} → Gives → Gives → (Gives → List 
     → List Name → (List Name → Tree → Option C) → List Name → List Name → Tree → Type 0
 IsWrongWithin gives into inner right here of names path t =
     (FieldIsWrong gives here of names path t × IsNoMore into right t)
-    ⊎ (into (Unit {0}) any_object t × inner into (here ++ name_or_empty names ∷ []) path t)
+    ⊎ (into (Unit {0}) object_gives t × inner into (here ++ name_or_empty names ∷ []) path t)
 
 -- the path is empty and the tree is no object, or the path leads to a field of it that is wrong
 abbrev pub StructIsWrong : (List Name → Tree → Type 0) → List Name → Tree → Type 0
-StructIsWrong fields path t = ((path ≡ []) × (any_object t ≡ None)) ⊎ fields path t
+StructIsWrong fields path t = ((path ≡ []) × (object_gives t ≡ None)) ⊎ fields path t
 
 -- the first name alone has no duplicate
-pub first_apart : (ns : List Name) → are_distinct (first_name ns) ≡ true
+pub first_apart : (ns : List Name) → are_distinct (first_alone ns) ≡ true
 first_apart [] = refl
 first_apart (n ∷ ns) = refl
 

@@ -1,7 +1,7 @@
 //! A struct with one field, whose name and mark are types, and one that stands for any object.
 ghost use Rattle.std.specs.Prelude.{[], refl};
 ghost use Rattle.miniserde.specs.FieldsMeaning.{field_and, no_fields, struct_meaning};
-ghost use Rattle.refused.specs.Wrong.{first_name, first_apart};
+ghost use Rattle.refused.specs.Wrong.{first_alone, first_apart};
 
 use crate::names::Names;
 use miniserde::derived::{Event, Source};
@@ -19,7 +19,7 @@ pub struct Alone<N, T, M> {
 impl<N: Names, T: FromJson, M: Mark<T>> Record for Alone<N, T, M> {
     type Values = Parts<T, ()>;
 
-    ghost names = { first_name N.names };
+    ghost names = { first_alone N.names };
 
     ghost values = { λ v. (v.value, tt) };
 
@@ -46,7 +46,7 @@ impl<N: Names, T: FromJson, M: Mark<T>> Record for Alone<N, T, M> {
 }
 
 impl<N: Names, T: FromJson, M: Mark<T>> FromJson for Alone<N, T, M> {
-    ghost means = { struct_meaning (field_and M.once M.given T.means T.absent no_fields) (first_name N.names) (λ v. (v.value, tt)) };
+    ghost means = { struct_meaning (field_and M.once M.given T.means T.absent no_fields) (first_alone N.names) (λ v. (v.value, tt)) };
 
     fn missing() -> Option<Alone<N, T, M>> {
         None

@@ -6,7 +6,7 @@ ghost use Rattle.miniserde.specs.Objects.{Name, object_of};
 ghost use Rattle.miniserde.specs.declared.Error.{Error};
 ghost use Rattle.refused.specs.Agree.{IsWrongAt};
 ghost use Rattle.refused.specs.Ways.{IsWrongFrom};
-ghost use Rattle.refused.specs.Wrong.{Gives, StructIsWrong, any_object, are_apart, document_gives};
+ghost use Rattle.refused.specs.Wrong.{Gives, StructIsWrong, object_gives, are_apart, document_gives};
 
 use crate::alone::AnyObject;
 use crate::names::NamesOf;
@@ -39,7 +39,7 @@ pub trait FieldByField: FromJson {
     /// Does nothing. It promises that an object at the place `W` gives a struct if each field has a value by itself. If a
     /// path is wrong there, no document that agrees at the path gives a struct at the place.
     fn by_fields<W: Way>()
-        ensures right { (t : Tree) → W.gives _ any_object t → right W.gives t → W.gives _ Self.means.from_tree t }
+        ensures right { (t : Tree) → W.gives _ object_gives t → right W.gives t → W.gives _ Self.means.from_tree t }
         ensures wrong { (path : List Name) (t : Tree) → wrong W.gives W.to path t
             → IsWrongFrom W.gives W.to Self.means.from_tree path t };
 }
@@ -47,7 +47,7 @@ pub trait FieldByField: FromJson {
 /// Does nothing. It promises of a struct with the fields `P` what `by_fields` promises.
 pub fn fields_give<S: Record, P: Probes, W: Way>()
     requires { are_apart [] S.names ≡ true }
-    ensures right { (t : Tree) → W.gives _ any_object t → P.right W.gives S.names t
+    ensures right { (t : Tree) → W.gives _ object_gives t → P.right W.gives S.names t
         → W.gives _ (object_of (P.meaning.from_members S.names P.meaning.empty)) t }
     ensures wrong { (path : List Name) (t : Tree) → P.wrong W.gives W.to S.names path t
         → IsWrongFrom W.gives W.to (object_of (P.meaning.from_members S.names P.meaning.empty)) path t }
@@ -69,7 +69,7 @@ pub fn wrong_field<S: FieldByField>(alloc: Global, text: &str) -> Result<Option<
     // No text that agrees with this one at the path means a struct, whatever else it has. The path is empty only if the
     // text is no object.
     ensures alone { IfOk result (λ answer. IfSome answer (λ path. (t : Tree) → IsJson text.now t
-        → (map (λ s. s.now) path.names.items ≡ [] → any_object t ≡ None)
+        → (map (λ s. s.now) path.names.items ≡ [] → object_gives t ≡ None)
         × IsWrongAt S.means.reads (map (λ s. s.now) path.names.items) t)) }
 
     // The text means a struct, or is no JSON.

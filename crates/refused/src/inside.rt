@@ -2,7 +2,7 @@
 ghost use Rattle.std.specs.Prelude.{◌≡◌, ◌++◌, ◌⊎◌};
 ghost use Rattle.miniserde.specs.Fields.{missing_content};
 ghost use Rattle.miniserde.specs.FieldsMeaning.{field_and};
-ghost use Rattle.refused.specs.Wrong.{IsWrongWithin, alone, field_gives, first_name, later_names, optional_gives};
+ghost use Rattle.refused.specs.Wrong.{IsWrongWithin, alone, field_gives, first_alone, later_names, optional_gives};
 
 use crate::alone::AnyObject;
 use crate::find::FieldByField;
@@ -28,11 +28,11 @@ impl<T: FieldByField, M: Mark<T>, R: Probes> Probes for ProbeInto<T, M, R> {
     ghost wrong = { λ gives here names path t.
         IsWrongWithin gives (field_gives gives names) T.wrong T.right here
         (alone M.once (missing_content T.means M.given T.absent) T.means.from_tree) names path t
-        ⊎ (gives _ (alone M.once (missing_content T.means M.given T.absent) T.means.from_tree (first_name names)) t
+        ⊎ (gives _ (alone M.once (missing_content T.means M.given T.absent) T.means.from_tree (first_alone names)) t
         × R.wrong gives here (later_names names) path t) };
 
     ghost right = { λ gives names t.
-        gives _ (alone M.once (missing_content T.means M.given T.absent) T.means.from_tree (first_name names)) t
+        gives _ (alone M.once (missing_content T.means M.given T.absent) T.means.from_tree (first_alone names)) t
         × R.right gives (later_names names) t };
 
     fn probe<W: Way, N: Names>(alloc: Global, text: &str) -> Result<Option<FieldPath>> {
@@ -73,12 +73,12 @@ impl<T: FieldByField, M: Mark<Option<T>>, R: Probes> Probes for ProbeIntoOption<
         (alone M.once (missing_content (option_meaning T.means) M.given (Some None)) (option_meaning T.means).from_tree)
         names path t
         ⊎ (gives _ (alone M.once (missing_content (option_meaning T.means) M.given (Some None))
-        (option_meaning T.means).from_tree (first_name names)) t
+        (option_meaning T.means).from_tree (first_alone names)) t
         × R.wrong gives here (later_names names) path t) };
 
     ghost right = { λ gives names t.
         gives _ (alone M.once (missing_content (option_meaning T.means) M.given (Some None))
-        (option_meaning T.means).from_tree (first_name names)) t
+        (option_meaning T.means).from_tree (first_alone names)) t
         × R.right gives (later_names names) t };
 
     fn probe<W: Way, N: Names>(alloc: Global, text: &str) -> Result<Option<FieldPath>> {

@@ -7,7 +7,7 @@ ghost use Rattle.miniserde.specs.Fields.{missing_content};
 ghost use Rattle.miniserde.specs.FieldsMeaning.{FieldsMeaning, field_and, no_fields};
 ghost use Rattle.miniserde.specs.declared.Error.{Error};
 ghost use Rattle.refused.specs.Ways.{IsWrongFrom};
-ghost use Rattle.refused.specs.Wrong.{FieldIsWrong, Gives, alone, any_object, are_apart, fields_of, first_name, later_names};
+ghost use Rattle.refused.specs.Wrong.{FieldIsWrong, Gives, alone, object_gives, are_apart, fields_of, first_alone, later_names};
 
 use crate::names::{LaterNames, Names};
 use crate::path::FieldPath;
@@ -45,7 +45,7 @@ pub trait Probes {
     /// place.
     fn tells<W: Way, N: Names>()
         ensures right { (before : List Name) → are_apart before N.names ≡ true → (t : Tree)
-            → W.gives _ any_object t → right W.gives N.names t
+            → W.gives _ object_gives t → right W.gives N.names t
             → W.gives _ (fields_of meaning.from_members meaning.empty before N.names) t }
         ensures wrong { (before : List Name) → are_apart before N.names ≡ true → (path : List Name) (t : Tree)
             → wrong W.gives W.to N.names path t
@@ -83,11 +83,11 @@ impl<T: FromJson, M: Mark<T>, R: Probes> Probes for Probe<T, M, R> {
 
     ghost wrong = { λ gives here names path t.
         FieldIsWrong gives here (alone M.once (missing_content T.means M.given T.absent) T.means.from_tree) names path t
-        ⊎ (gives _ (alone M.once (missing_content T.means M.given T.absent) T.means.from_tree (first_name names)) t
+        ⊎ (gives _ (alone M.once (missing_content T.means M.given T.absent) T.means.from_tree (first_alone names)) t
         × R.wrong gives here (later_names names) path t) };
 
     ghost right = { λ gives names t.
-        gives _ (alone M.once (missing_content T.means M.given T.absent) T.means.from_tree (first_name names)) t
+        gives _ (alone M.once (missing_content T.means M.given T.absent) T.means.from_tree (first_alone names)) t
         × R.right gives (later_names names) t };
 
     fn probe<W: Way, N: Names>(alloc: Global, text: &str) -> Result<Option<FieldPath>> {

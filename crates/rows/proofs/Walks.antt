@@ -21,7 +21,7 @@ use Rattle.sqlite.specs.Stream.{returned, HasEnded}
 use Rattle.sqlite.specs.Given.{HasGiven, Returns, Advances}
 use Rattle.sqlite.proofs.Callers.{IsPlain, begins_as, given_begin, begun_plain, unchanged_then}
 use Rattle.rows.specs.Entries.{each_text, entry_schema, texts_of, words_of, AreEntries, IsStore}
-use Rattle.rows.specs.Visits.{Entry, Takes, BeginsEntries, GoesOn, TakesAll, TakesFirst, StopsAt, ShowsTexts}
+use Rattle.rows.specs.Visits.{Entry, VisitStep, BeginsEntries, GoesOn, TakesAll, TakesFirst, StopsAt, ShowsTexts}
 use Rattle.rows.specs.declared.error.Error.{Error}
 use Rattle.rows.proofs.Each.{stored, shown, permuted, answers_each, shows_each}
 use Rattle.rows.proofs.Found.{has_permuted}
@@ -83,7 +83,7 @@ pub starts_open : {S : Type 0} (g : Ghosts S) (old now : Held S) → Starts g ol
 starts_open g old now (inl h) = h.1.0.was_open
 starts_open g old now (inr h) = shown_open each_text [] (state g old) (state g now) (returned now.reading) h.1
 
-module _ {S V : Type 0} (g : Ghosts S) (takes : Takes V) where
+module _ {S V : Type 0} (g : Ghosts S) (takes : VisitStep V) where
   -- the query has given the rows that the visitor took, and the database is as it was
   pub record Walks (old now : Held S) (v w : V) : Type 0 where
     pub same : IsUnchanged (state g old) (state g now)

@@ -12,6 +12,6 @@ canonical_text t = compact (norm t)
 
 -- The text spells a tree that means the value that was read. If the text is the canonical text of a valid value, the two
 -- have the same content.
-pub record IsReadFrom {T : Type 0} (means : Meaning T) (tree : T → Tree) (real : T → Type 0) (text : List ℕ) (read : T) : Type 0 where
+pub record IsReadFrom {T : Type 0} (means : Meaning T) (tree : T → Tree) (valid : T → Type 0) (text : List ℕ) (read : T) : Type 0 where
   pub meant : (t : Tree) × IsJson text t × means.reads t read
-  pub same : (v : T) → real v → IsJson text (norm (tree v)) → means.content read ≡ means.content v
+  pub same : (v : T) → valid v → IsJson text (norm (tree v)) → means.content read ≡ means.content v

@@ -15,14 +15,14 @@ abbrev pub Entry : Type 0
 Entry = List ℕ × List ℕ
 
 -- what a visit does: the visitor before it, the key, the body, what it returns, and the visitor after it
-abbrev pub Takes : Type 0 → Type 1
-Takes V = V → List ℕ → List ℕ → Result Bool Error → V → Type 0
+abbrev pub VisitStep : Type 0 → Type 1
+VisitStep V = V → List ℕ → List ℕ → Result Bool Error → V → Type 0
 
 -- the entries are the first of the rows of the table, in the byte order of the keys
 abbrev pub BeginsEntries : Database → List Entry → Type 0
 BeginsEntries db front = (rest : List Entry) × AreEntries db (front ++ rest)
 
-module _ {V : Type 0} (takes : Takes V) where
+module _ {V : Type 0} (takes : VisitStep V) where
   -- the visitor took these entries one after another, and said to go on at each
   abbrev pub GoesOn : V → List Entry → V → Type 0
   GoesOn old entries new = FoldsTo (λ v e w. takes v e.0 e.1 (Ok true) w) old entries new

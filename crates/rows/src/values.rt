@@ -131,10 +131,10 @@ pub fn remove<S: Alter, K: Serialize>(
 /// Returns the value that a stored text means. Returns `Invalid` if it means none, and `Memory` if an allocation fails.
 pub fn value_of<V: Stable + Lossless>(alloc: Global, text: &str) -> miniserde::Result<V>
     // If the text is the canonical text of a value, the answer has the content of that value.
-    ensures read { IfOk result (IsReadFrom V.means V.tree V.real text.now) }
+    ensures read { IfOk result (IsReadFrom V.means V.tree V.valid text.now) }
 
     // The text is the canonical text of no value.
-    ensures invalid { result ≡ Err Invalid → (v : V) → V.real v → IsJson text.now (norm (V.tree v)) → ⊥ }
+    ensures invalid { result ≡ Err Invalid → (v : V) → V.valid v → IsJson text.now (norm (V.tree v)) → ⊥ }
 {
     V::round_trips();
     means_in_normal_form::<V>();
@@ -155,7 +155,7 @@ pub fn get<S: Alter, K: Serialize, V: Stable + Lossless>(
     ensures some { HasCleanDisk (state S.Store conn.new) → (state S.Store conn.old).now.schema ≡ entry_schema
         → IfOk result (λ answer. IfSome answer (λ read. (body : List ℕ)
         × Holds (state S.Store conn.old).now (canonical_text (K.tree key.now)) body
-        × IsReadFrom V.means V.tree V.real body read)) }
+        × IsReadFrom V.means V.tree V.valid body read)) }
     ensures none { HasCleanDisk (state S.Store conn.new) → (state S.Store conn.old).now.schema ≡ entry_schema
         → result ≡ Ok None → HasKey (state S.Store conn.old).now (canonical_text (K.tree key.now)) → ⊥ }
 
@@ -163,7 +163,7 @@ pub fn get<S: Alter, K: Serialize, V: Stable + Lossless>(
     ensures invalid { HasCleanDisk (state S.Store conn.new) → (state S.Store conn.old).now.schema ≡ entry_schema
         → result ≡ Err (Json Invalid) → (body : List ℕ)
         × Holds (state S.Store conn.old).now (canonical_text (K.tree key.now)) body
-        × ((v : V) → V.real v → IsJson body (norm (V.tree v)) → ⊥) }
+        × ((v : V) → V.valid v → IsJson body (norm (V.tree v)) → ⊥) }
 
     // If it succeeds, the database is as it was.
     ensures same { HasCleanDisk (state S.Store conn.new) → (state S.Store conn.old).now.schema ≡ entry_schema
@@ -292,14 +292,14 @@ pub fn all<S: Alter, K: Stable + Lossless, V: Stable + Lossless>(
     // They are read from the rows of the table, none left out and none twice.
     ensures rows { HasCleanDisk (state S.Store conn.new) → (state S.Store conn.old).now.schema ≡ entry_schema
         → IfOk result (λ listed. (entries : List (List ℕ × List ℕ)) × AreEntries (state S.Store conn.old).now entries
-        × AllZip (λ entry read. IsReadFrom K.means K.tree K.real entry.0 read.0
-        × IsReadFrom V.means V.tree V.real entry.1 read.1) entries listed.items) }
+        × AllZip (λ entry read. IsReadFrom K.means K.tree K.valid entry.0 read.0
+        × IsReadFrom V.means V.tree V.valid entry.1 read.1) entries listed.items) }
 
     // A row has a key or a body that is the canonical text of no value.
     ensures invalid { HasCleanDisk (state S.Store conn.new) → (state S.Store conn.old).now.schema ≡ entry_schema
         → result ≡ Err (Json Invalid) → (key body : List ℕ) × Holds (state S.Store conn.old).now key body
-        × (((k : K) → K.real k → IsJson key (norm (K.tree k)) → ⊥)
-        ⊎ ((v : V) → V.real v → IsJson body (norm (V.tree v)) → ⊥)) }
+        × (((k : K) → K.valid k → IsJson key (norm (K.tree k)) → ⊥)
+        ⊎ ((v : V) → V.valid v → IsJson body (norm (V.tree v)) → ⊥)) }
 
     // If it succeeds, the database is as it was.
     ensures same { HasCleanDisk (state S.Store conn.new) → (state S.Store conn.old).now.schema ≡ entry_schema

@@ -70,7 +70,7 @@ impl Serialize for Host {
 }
 
 impl Ranged for Host {
-    ghost real = { λ v. ⟦<HostFields as WrittenFields>⟧.real (⟦<Host as Record>⟧.values v) };
+    ghost valid = { λ v. ⟦<HostFields as WrittenFields>⟧.valid (⟦<Host as Record>⟧.values v) };
 
     fn ranged(&self) {
         self.host.ranged();
@@ -203,7 +203,7 @@ impl Serialize for Tls {
 }
 
 impl Ranged for Tls {
-    ghost real = { λ v. ⟦<TlsFields as WrittenFields>⟧.real (⟦<Tls as Record>⟧.values v) };
+    ghost valid = { λ v. ⟦<TlsFields as WrittenFields>⟧.valid (⟦<Tls as Record>⟧.values v) };
 
     fn ranged(&self) {
         self.cert.ranged();

@@ -108,7 +108,7 @@ impl Serialize for Settings {
 }
 
 impl Ranged for Settings {
-    ghost real = { λ v. ⟦<SettingsFields as WrittenFields>⟧.real (⟦<Settings as Record>⟧.values v) };
+    ghost valid = { λ v. ⟦<SettingsFields as WrittenFields>⟧.valid (⟦<Settings as Record>⟧.values v) };
 
     fn ranged(&self) {
         self.name.ranged();

@@ -11,12 +11,12 @@ use Rattle.miniserde.specs.Options.{OptionReads, option_of}
 use Rattle.miniserde.specs.Maps.{MapReads, map_of}
 use Rattle.settings.specs.Meaning.{IsBelow, IsHost, IsTls, IsSettings}
 use Rattle.settings.specs.declared.types.Settings.{Settings}
-use Rattle.settings_app.specs.Changes.{at_port, with_last}
+use Rattle.settings_app.specs.Changes.{at_port, with_member_behind}
 use Rattle.settings_app.proofs.Members.{as_before, as_last}
 
 module _ {C D : Type 0} (host : Tree → Option C) (tls : Tree → Option D) (port : ℕ) (s : Settings) (ms : Members) where
   pub with_port : port < 65536 → IsSettings host tls (members ms) s
-      → IsSettings host tls (members (with_last (codes "port") (nonneg port) ms)) (at_port port s)
+      → IsSettings host tls (members (with_member_behind (codes "port") (nonneg port) ms)) (at_port port s)
   with_port small r =
       let u = nonneg port in
       let some = ap (λ b. is_some (cond b (Some (pos port)) None)) (lt-ltb port 65536 small) in (

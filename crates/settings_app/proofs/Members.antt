@@ -15,8 +15,8 @@ use Rattle.miniserde.specs.Normal.{text_cmp, with_if_absent_by, with_if_absent, 
 use Rattle.miniserde.specs.Normal.{or_else, last_of, BeginsAbove, Rise, put_first_by, put}
 use Rattle.miniserde.specs.Kinds.{only_members}
 use Rattle.miniserde.specs.Retained.{retained_members, retained_tree}
-use Rattle.miniserde.specs.Fields.{AllNamed, LastMemberReads}
-use Rattle.settings_app.specs.Changes.{with_last, HasOnlyChange}
+use Rattle.miniserde.specs.Fields.{AllOfName, LastMemberReads}
+use Rattle.settings_app.specs.Changes.{with_member_behind, HasOnlyChange}
 
 -- ---- names that rise
 
@@ -114,15 +114,15 @@ members_only ms ns e = cc
 
 -- the last tree of q is u if q is the name, and else the one of the members
 pub last_with_last : (q name : List ℕ) (u : Tree) (ms : Members)
-    → last_of q (with_last name u ms) ≡ or_else (if_named name u q) (last_of q ms)
+    → last_of q (with_member_behind name u ms) ≡ or_else (if_named name u q) (last_of q ms)
 last_with_last q name u no_members = sym (or_else_none _)
 last_with_last q name u (member other v ms) = ap (λ z. or_else z (if_named other v q)) (last_with_last q name u ms)
     ∙ or_else_assoc (if_named name u q) (last_of q ms) (if_named other v q)
 
 -- members of a rising order with a member put in, and members of the same normal form with it behind them, have one normal form
 pub put_is_last : NormKeepsLast → NormRises → NormIsOnly → (name : List ℕ) (u : Tree) (ms os : Members) → Rise os
-    → norm_members os ≡ norm_members ms → norm_members (put name u os) ≡ norm_members (with_last name u ms)
-put_is_last keeps rises only name u ms os r e = only (with_last name u ms) (norm_members (put name u os)) (rises (put name u os))
+    → norm_members os ≡ norm_members ms → norm_members (put name u os) ≡ norm_members (with_member_behind name u ms)
+put_is_last keeps rises only name u ms os r e = only (with_member_behind name u ms) (norm_members (put name u os)) (rises (put name u os))
     (λ q. keeps q (put name u os) ∙ ap (option_map norm) (last_put q name u os r)
     ∙ or_else_maps norm (if_named name u q) (last_of q os)
     ∙ ap (or_else (option_map norm (if_named name u q))) (sym (keeps q os) ∙ ap (last_of q) e ∙ keeps q ms)
@@ -132,7 +132,7 @@ put_is_last keeps rises only name u ms os r e = only (with_last name u ms) (norm
 -- x is the content of the value that was read, os and ns are the members of the object before and after.
 pub written : NormKeepsLast → NormRises → NormIsOnly → (name : List ℕ) (u t x : Tree) (os ns : Members) → x ≡ retained_tree t
     → norm x ≡ norm t → Some (members os) ≡ only_members (Some x) → ns ≡ put name u os
-    → (ms : Members) × (t ≡ members ms) × (norm (members ns) ≡ norm (members (with_last name u ms)))
+    → (ms : Members) × (t ≡ members ms) × (norm (members ns) ≡ norm (members (with_member_behind name u ms)))
 written keeps rises only name u (members ms) x os ns e n is p =
     let kept = retained_members ms in
     let same : os ≡ kept = members_only os kept (some_only (members os) (members kept) (is ∙ ap (λ x. only_members (Some x)) e)) in
@@ -147,11 +147,11 @@ written keeps rises only name u t x os ns e n is p = absurd (true≢false (ap is
 
 -- the normal form of members with one behind them has changed at that name alone
 pub only_change : NormKeepsLast → (name : List ℕ) (u : Tree) (ms : Members) → norm u ≡ u
-    → HasOnlyChange name u ms (norm_members (with_last name u ms))
+    → HasOnlyChange name u ms (norm_members (with_member_behind name u ms))
 only_change keeps name u ms normal = (
-  keeps name (with_last name u ms) ∙ ap (option_map norm) (last_with_last name name u ms)
+  keeps name (with_member_behind name u ms) ∙ ap (option_map norm) (last_with_last name name u ms)
       ∙ ap (λ b. option_map norm (or_else (cond b (Some u) None) (last_of name ms))) ((bytes_eq-Decides name name).1 refl) ∙ ap Some normal,
-  λ q differ. keeps q (with_last name u ms) ∙ ap (option_map norm) (last_with_last q name u ms
+  λ q differ. keeps q (with_member_behind name u ms) ∙ ap (option_map norm) (last_with_last q name u ms
       ∙ ap (λ b. or_else (cond b (Some u) None) (last_of q ms))
       (false_from_ne_true _ (λ e. differ (sym ((bytes_eq-Decides name q).0 e))))),
 )
@@ -159,13 +159,14 @@ only_change keeps name u ms normal = (
 -- ---- what a field means
 
 module _ {C : Type 0} (of : Tree → Option C) (k name : List ℕ) (u : Tree) where
-  all_with_last : (ms : Members) → (bytes_eq name k ≡ true → IsSome (of u)) → AllNamed of k ms → AllNamed of k (with_last name u ms)
+  all_with_last : (ms : Members) → (bytes_eq name k ≡ true → IsSome (of u)) → AllOfName of k ms
+      → AllOfName of k (with_member_behind name u ms)
   all_with_last no_members h a = (h, tt)
   all_with_last (member other v ms) h a = (a.0, all_with_last ms h a.1)
 
   -- a field of another name means what it meant
   pub as_before : (missing : Type 0) (Is : Tree → Type 0) (ms : Members) → bytes_eq name k ≡ false
-      → LastMemberReads missing Is of k ms → LastMemberReads missing Is of k (with_last name u ms)
+      → LastMemberReads missing Is of k ms → LastMemberReads missing Is of k (with_member_behind name u ms)
   as_before missing Is ms d h = (
     all_with_last ms (λ e. absurd (true≢false (sym e ∙ d))) h.0,
     subst (λ o. MatchOption o missing Is) (sym (last_with_last k name u ms
@@ -174,7 +175,7 @@ module _ {C : Type 0} (of : Tree → Option C) (k name : List ℕ) (u : Tree) wh
 
 -- a field of the name means the tree that stands behind all others
 pub as_last : {C : Type 0} (of : Tree → Option C) (name : List ℕ) (u : Tree) (missing : Type 0) (Is : Tree → Type 0) (ms : Members)
-    → IsSome (of u) → Is u → AllNamed of name ms → LastMemberReads missing Is of name (with_last name u ms)
+    → IsSome (of u) → Is u → AllOfName of name ms → LastMemberReads missing Is of name (with_member_behind name u ms)
 as_last of name u missing Is ms some is h = (
   all_with_last of name name u ms (λ _. some) h,
   subst (λ o. MatchOption o missing Is) (sym (last_with_last name name u ms

@@ -12,9 +12,9 @@ abbrev pub at_port : ℕ → Settings → Settings
 at_port port s = record s { port = port }
 
 -- the members with one more behind them, of that name and tree
-abbrev pub with_last : List ℕ → Tree → Members → Members
-with_last name u no_members = member name u no_members
-with_last name u (member other t ms) = member other t (with_last name u ms)
+abbrev pub with_member_behind : List ℕ → Tree → Members → Members
+with_member_behind name u no_members = member name u no_members
+with_member_behind name u (member other t ms) = member other t (with_member_behind name u ms)
 
 -- ns have the tree u at the name, and at each other name the normal form of the last tree of ms, if there is one
 abbrev pub HasOnlyChange : List ℕ → Tree → Members → Members → Type 0

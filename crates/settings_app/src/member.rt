@@ -4,7 +4,7 @@ ghost use Rattle.miniserde.specs.Tree.{Members, members, nonneg};
 ghost use Rattle.miniserde.specs.Value.{IsJson};
 ghost use Rattle.miniserde.specs.Compact.{compact};
 ghost use Rattle.miniserde.specs.Normal.{norm};
-ghost use Rattle.settings_app.specs.Changes.{with_last};
+ghost use Rattle.settings_app.specs.Changes.{with_member_behind};
 
 use miniserde::json::value::{IntoValue, read_is_normal};
 use miniserde::json::{from_str, to_string};
@@ -17,8 +17,8 @@ use std::alloc::Global;
 pub fn with_number(alloc: Global, text: &str, name: &str, number: u16) -> Result<String>
     // The text spells an object, and the answer is the canonical text of that object with the member behind all others.
     ensures ok { IfOk result (λ j. (ms : Members) × IsJson text.now (members ms)
-        × IsJson (string_bytes j) (norm (members (with_last name.now (nonneg number) ms)))
-        × (string_bytes j ≡ compact (norm (members (with_last name.now (nonneg number) ms))))) }
+        × IsJson (string_bytes j) (norm (members (with_member_behind name.now (nonneg number) ms)))
+        × (string_bytes j ≡ compact (norm (members (with_member_behind name.now (nonneg number) ms))))) }
 
     // The text spells no object.
     ensures invalid { result ≡ Err Error.Invalid → (ms : Members) → IsJson text.now (members ms) → ⊥ }

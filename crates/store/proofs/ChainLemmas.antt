@@ -9,7 +9,7 @@ use Rattle.sqlite_trees.specs.declared.store.Store.{Ghosts}
 use Rattle.sqlite.specs.Held.{Held, state}
 use Rattle.sqlite.specs.State.{HasCleanDisk}
 use Rattle.store.specs.Answered.{Answered, Goes}
-use Rattle.store.specs.Maps.{Map, AnsweredMap, Represents}
+use Rattle.store.specs.Maps.{Map, AnsweredMap, ServesMap}
 use Rattle.store.proofs.MapLemmas.{answered_map}
 
 -- what each call hands back to the state before it holds before all of them
@@ -25,9 +25,9 @@ module _ {S : Type 0} (g : Ghosts S) {V : Type 0} (means : Meaning V) (tree : V 
   answers old request response new = Goes (state g old) (state g new) (Answered means tree (state g old) request response (state g new))
 
   pub answered_by_map : (calls : List Call) (old new : Held S) (m : Map) → Chain answers old calls new → HasCleanDisk (state g new)
-      → Represents (state g old) m
-      → (after : Map) × Chain (AnsweredMap means tree) m calls after × Represents (state g new) after
-  answered_by_map [] old new m same clean r = (m, refl, subst (λ h. Represents (state g h) m) (sym same) r)
+      → ServesMap (state g old) m
+      → (after : Map) × Chain (AnsweredMap means tree) m calls after × ServesMap (state g new) after
+  answered_by_map [] old new m same clean r = (m, refl, subst (λ h. ServesMap (state g h) m) (sym same) r)
   answered_by_map (c ∷ calls) old new m (next, step, later) clean r =
       let late = back answers (λ h. HasCleanDisk (state g h)) (λ _ _ _ one was. (one was).0) calls next new later clean in
       let went = (step late).1 None r.0 in

@@ -12,13 +12,13 @@ use Rattle.sqlite.specs.declared.error.Error.{Error}
 use Rattle.rows.specs.Entries.{entry_schema, IsStore, IsCommitted, IsBegun, IsBack, Holds, Aborts}
 use Rattle.rows.proofs.Serving.{aborts_keeps, aborts_serving}
 use Rattle.store.specs.Answered.{IsInside, IsLost, GoesIn}
-use Rattle.store.specs.Maps.{Map, IsMapOf, SeesMap, Represents, AnsweredMap}
+use Rattle.store.specs.Maps.{Map, IsMapOf, SeesMap, ServesMap, AnsweredMap}
 use Rattle.store.specs.Rounds.{IsUnderWay, IsOff, InRound, IsBetween, AnsweredInRound, SettlesRound}
 use Rattle.store.proofs.MapLemmas.{Leads, kept_sees}
 use Rattle.store.proofs.Steps.{unchanged_inside, rolled_lost}
 
 -- the round is inside of a transaction or not
-pub was_outside : (begun m : Map) (s : State) → IsUnderWay begun s m → s.in_transaction ≡ false → Represents s m × (m ≡ begun)
+pub was_outside : (begun m : Map) (s : State) → IsUnderWay begun s m → s.in_transaction ≡ false → ServesMap s m × (m ≡ begun)
 was_outside begun m s (inl it) outside = it
 was_outside begun m s (inr it) outside = absurd (true≢false (sym it.1.inside ∙ outside))
 

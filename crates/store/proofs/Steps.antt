@@ -8,7 +8,7 @@ use Rattle.sqlite.specs.State.{State, HasCleanDisk, IsUnchanged, IsRolledBack}
 use Rattle.rows.specs.Entries.{entry_schema, IsStore, IsPage, IsPut, IsRemoved, IsServing, StaysInside, Keeps, Aborts}
 use Rattle.store.specs.Lists.{object_text}
 use Rattle.store.specs.Answered.{IsTextOf, IsStatus, IsCurrent, Shows, Reads, PutsAs, PutsValue, PutsOver, Puts, ListsFrom}
-use Rattle.store.specs.Answered.{Takes, RemovesOver, Removes, IsInside, IsLost, IsReady, GoesIn, Goes}
+use Rattle.store.specs.Answered.{TakesRow, RemovesOver, Removes, IsInside, IsLost, IsReady, GoesIn, Goes}
 use Rattle.miniserde.specs.Tree.{Tree}
 use Rattle.miniserde.specs.Meaning.{Meaning}
 
@@ -216,7 +216,7 @@ module _ (a b : State) where
           inl (it.0, current, it.2, over_from current it.1 over))
 
     module _ (headers : Entries FieldValue) (key : List ℕ) (response : Response) where
-      take_from : Keeps a b → Takes b key response c → Takes a key response c
+      take_from : Keeps a b → TakesRow b key response c → TakesRow a key response c
       take_from keeps (inl (live, late, removed, status)) =
           inl ((keeps live).0, late, subst (λ db. IsRemoved db c.now key) (keeps live).1 removed, status)
       take_from keeps (inr (on, status)) = inr (keeps_then a b c keeps on, status)

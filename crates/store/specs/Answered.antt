@@ -35,8 +35,8 @@ abbrev pub quote : ℕ
 quote = 34
 
 -- the strong entity tag of a text: its SHA-256 in hex, in quotes
-abbrev pub tag_of : List ℕ → List ℕ
-tag_of text = quote ∷ (encode_lower (sha256 text) ++ quote ∷ [])
+abbrev pub entity_tag : List ℕ → List ℕ
+entity_tag text = quote ∷ (encode_lower (sha256 text) ++ quote ∷ [])
 
 -- the field that has a tag
 abbrev pub etag_field : List ℕ → Header
@@ -44,7 +44,7 @@ etag_field tag = (codes "etag", tag)
 
 -- the fields of a response that shows a text
 abbrev pub shown_fields : List ℕ → List Header
-shown_fields text = json_field ∷ etag_field (tag_of text) ∷ []
+shown_fields text = json_field ∷ etag_field (entity_tag text) ∷ []
 
 -- the field that says that a body is the details of a problem (RFC 9457, section 3)
 abbrev pub problem_field : Header
@@ -81,13 +81,13 @@ IsStatus code response = IsResponse code [] [] response
 
 -- what the conditions of a request say of the text of a key, if it has one
 abbrev pub condition_on : Entries FieldValue → Option (List ℕ) → Condition
-condition_on headers current = condition_at headers (option_map tag_of current)
+condition_on headers current = condition_at headers (option_map entity_tag current)
 
 -- The response to a read of a text: 200 with the text, 304 with its tag if `If-None-Match` lists that or is `*`, or 412 if
 -- `If-Match` does not hold (RFC 9110, sections 13.1.1, 13.1.2 and 15.4.5).
 abbrev pub ShownBy : Condition → List ℕ → Response → Type 0
 ShownBy Met text response = IsResponse 200 (shown_fields text) text response
-ShownBy Cached text response = IsResponse 304 (etag_field (tag_of text) ∷ []) [] response
+ShownBy Cached text response = IsResponse 304 (etag_field (entity_tag text) ∷ []) [] response
 ShownBy Failed text response = IsStatus 412 response
 
 -- the response to a read of a key. 404: it has no text, whatever the conditions are (section 13.2.1).
@@ -115,8 +115,8 @@ PutsAs old key text code response new =
 
 -- What becomes of the row of a key that is removed. If it is, the connection is open, so what it serves (`IsServing`) is
 -- committed.
-abbrev pub Takes : State → List ℕ → Response → State → Type 0
-Takes old key response new =
+abbrev pub TakesRow : State → List ℕ → Response → State → Type 0
+TakesRow old key response new =
     (IsTrue old.is_open × IsTrue new.is_open × IsRemoved old.now new.now key × IsStatus 204 response)
     ⊎ (Keeps old new × IsStatus 503 response)
 
@@ -147,7 +147,7 @@ Puts means tree old headers key body response new =
 abbrev pub RemovesOver : State → Entries FieldValue → List ℕ → Option (List ℕ) → Response → State → Type 0
 RemovesOver old headers key None response new = Keeps old new × IsStatus 404 response
 RemovesOver old headers key (Some text) response new =
-    ((condition_on headers (Some text) ≡ Met) × Takes old key response new)
+    ((condition_on headers (Some text) ≡ Met) × TakesRow old key response new)
     ⊎ (Keeps old new × (((condition_on headers (Some text) ≢ Met) × IsStatus 412 response) ⊎ IsStatus 503 response))
 
 -- the response to a removal

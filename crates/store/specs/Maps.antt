@@ -120,5 +120,5 @@ abbrev pub SeesMap : State → Map → Type 0
 SeesMap s m = IsTrue s.is_open → IsMapOf s.now m
 
 -- the connection serves a store whose rows are the entries of the map, unless it is shut
-abbrev pub Represents : State → Map → Type 0
-Represents s m = IsServing s × SeesMap s m
+abbrev pub ServesMap : State → Map → Type 0
+ServesMap s m = IsServing s × SeesMap s m

@@ -7,14 +7,14 @@ use Rattle.miniserde.specs.Meaning.{Meaning}
 use Rattle.miniserde.specs.Objects.{Name}
 use Rattle.refused.specs.Agree.{IsWrongAt}
 use Rattle.refused.specs.Text.{path_text}
-use Rattle.refused.specs.Wrong.{any_object}
+use Rattle.refused.specs.Wrong.{object_gives}
 use Rattle.refused.specs.declared.path.FieldPath.{FieldPath}
 use Rattle.store.specs.declared.reason.Reason.{Reason}
 use Rattle.store.specs.declared.reason.Reason.TheVariants.{NoJson, Field, NoValue}
 
 -- the names of a path
-abbrev pub names_of : FieldPath → List Name
-names_of path = map (λ s. s.now) path.names.items
+abbrev pub path_names : FieldPath → List Name
+path_names path = map (λ s. s.now) path.names.items
 
 -- The reason is true of the body. No JSON: the body spells no tree. A field: the body spells a tree, and no tree that agrees
 -- with it at the path means a value; the path is empty only if the tree is no object. No value: the body spells a tree, which
@@ -22,7 +22,7 @@ names_of path = map (λ s. s.now) path.names.items
 abbrev pub IsReason : {V : Type 0} → Meaning V → List ℕ → Reason → Type 0
 IsReason means body NoJson = (t : Tree) → IsJson body t → ⊥
 IsReason means body (Field path) =
-    (t : Tree) × IsJson body t × (names_of path ≡ [] → any_object t ≡ None) × IsWrongAt means.reads (names_of path) t
+    (t : Tree) × IsJson body t × (path_names path ≡ [] → object_gives t ≡ None) × IsWrongAt means.reads (path_names path) t
 IsReason {V} means body NoValue = (t : Tree) × IsJson body t × ((v : V) → means.reads t v → ⊥)
 
 -- the text of the path to a field; the empty path is the body's
@@ -49,7 +49,7 @@ problem detail field =
 -- the problem details of a reason
 abbrev pub problem_of : Reason → Tree
 problem_of NoJson = problem (codes "the body is no JSON") None
-problem_of (Field path) = problem (field_detail (field_of (names_of path))) (field_of (names_of path))
+problem_of (Field path) = problem (field_detail (field_of (path_names path))) (field_of (path_names path))
 problem_of NoValue = problem (codes "the body means no value") None
 
 -- the text of the problem details of a reason

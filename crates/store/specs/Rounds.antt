@@ -7,13 +7,13 @@ use Rattle.miniserde.specs.Meaning.{Meaning}
 use Rattle.sqlite.specs.Effect.{Database}
 use Rattle.sqlite.specs.State.{State, HasCleanDisk}
 use Rattle.store.specs.Answered.{IsInside, IsLost}
-use Rattle.store.specs.Maps.{Map, AnsweredMap, IsMapOf, SeesMap, Represents}
+use Rattle.store.specs.Maps.{Map, AnsweredMap, IsMapOf, SeesMap, ServesMap}
 
 -- A round that began at the first map and has come to the second: nothing was put yet, or the connection is inside of a
 -- transaction.
 abbrev pub IsUnderWay : Map → State → Map → Type 0
 IsUnderWay begun s m =
-    (Represents s m × (m ≡ begun)) ⊎ ((base : Database) × IsInside base s × IsMapOf base begun × SeesMap s m)
+    (ServesMap s m × (m ≡ begun)) ⊎ ((base : Database) × IsInside base s × IsMapOf base begun × SeesMap s m)
 
 -- a round that began at this map and will not be committed: its transaction is rolled back, or is still to be
 abbrev pub IsOff : Map → State → Type 0
@@ -27,7 +27,7 @@ InRound begun s false m = IsOff begun s
 -- Between two rounds the connection serves a store whose rows are the entries of the map. If a transaction could not be rolled
 -- back, that is still to be done, and these are the rows of the last commit.
 abbrev pub IsBetween : Map → State → Bool → Type 0
-IsBetween m s true = Represents s m
+IsBetween m s true = ServesMap s m
 IsBetween m s false = IsOff m s
 
 -- The response to a request, if the round still stands afterwards, is that of the map to which the round has come.

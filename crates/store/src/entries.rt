@@ -3,9 +3,9 @@ ghost use Rattle.std.specs.Prelude.{◌≡◌, ◌⊎◌, [], ◌∷◌, IfOk, O
 ghost use Rattle.http_server.specs.Response.{IsBlank, IsResponse};
 ghost use Rattle.miniserde.specs.declared.Error.TheVariants.{Invalid};
 ghost use Rattle.sqlite.specs.Held.{state};
-ghost use Rattle.store.specs.Answered.{tag_of, shown_fields, etag_field, allow_field, problem_field, condition_on};
+ghost use Rattle.store.specs.Answered.{entity_tag, shown_fields, etag_field, allow_field, problem_field, condition_on};
 ghost use Rattle.store.specs.Answered.{IsTextOf, MeansNoValue, IsProblem, Shows, IsStatus};
-ghost use Rattle.store.specs.Answered.{Reads, PutsAs, PutsValue, PutsOver, Puts, Takes, RemovesOver, Removes, Goes};
+ghost use Rattle.store.specs.Answered.{Reads, PutsAs, PutsValue, PutsOver, Puts, TakesRow, RemovesOver, Removes, Goes};
 
 use crate::conditions::{Condition, allows_new, judge};
 use crate::explain::Explain;
@@ -23,7 +23,7 @@ use std::alloc::{AllocError, Global};
 
 // Returns the strong entity tag of a text.
 fn entity_tag(alloc: Global, text: &str) -> Result<HeaderValue, HeaderValueError>
-    ensures { IfOk result (λ tag. tag.bytes ≡ tag_of text.now) }
+    ensures { IfOk result (λ tag. tag.bytes ≡ entity_tag text.now) }
 {
     let digest = Sha256::digest(text.as_bytes());
     let hex = hex::encode(alloc, digest.as_slice())?;
@@ -45,7 +45,7 @@ fn judged(alloc: Global, headers: &HeaderMap, text: &str) -> Result<Condition, H
 // Fills the response whose body is a JSON text of this tag.
 fn json_body(tag: HeaderValue, text: &str, response: &mut Response) -> Result<(), AllocError>
     requires blank { IsBlank response.old }
-    requires tag { tag.bytes ≡ tag_of text.now }
+    requires tag { tag.bytes ≡ entity_tag text.now }
     ensures { OnOk result (IsResponse 200 (shown_fields text.now) text.now response.new) }
 {
     let value = HeaderValue::from_static("application/json");
@@ -291,7 +291,7 @@ pub fn put<S: Alter, V: Stable + Lossless, E: Explain<V>>(
 fn take<S: Alter>(conn: &mut Connection<S>, key: &str, response: &mut Response)
     requires { IsBlank response.old }
     ensures { Goes (state S.Store conn.old) (state S.Store conn.new)
-        (Takes (state S.Store conn.old) key.now response.new (state S.Store conn.new)) }
+        (TakesRow (state S.Store conn.old) key.now response.new (state S.Store conn.new)) }
 {
     match texts::remove(conn, key) {
         Ok(_) => response.status = StatusCode::NO_CONTENT,

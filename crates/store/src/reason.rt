@@ -2,7 +2,7 @@
 ghost use Rattle.std.specs.Prelude.{◌≡◌, IfOk, option_map, string_bytes};
 ghost use Rattle.miniserde.specs.Compact.{compact};
 ghost use Rattle.store.specs.Reasons as spec;
-ghost use Rattle.store.specs.Reasons.{names_of, problem};
+ghost use Rattle.store.specs.Reasons.{path_names, problem};
 
 use miniserde::Result;
 use miniserde::record::{Omitted, Parts, write_members};
@@ -26,7 +26,7 @@ pub enum Reason {
 
 // Returns the text of the path to a field, or `None` if the path is empty.
 fn field_of(alloc: Global, path: &FieldPath) -> Result<Option<String>>
-    ensures { IfOk result (λ field. option_map string_bytes field ≡ spec.field_of (names_of path.now)) }
+    ensures { IfOk result (λ field. option_map string_bytes field ≡ spec.field_of (path_names path.now)) }
 {
     if path.names.is_empty() {
         return Ok(None);

@@ -5,7 +5,7 @@ ghost use Rattle.sqlite.specs.Held.{state};
 ghost use Rattle.sqlite.specs.State.{HasCleanDisk};
 ghost use Rattle.slab.specs.Slab.{get};
 ghost use Rattle.turns.specs.Shared.{Turns, IsShared, IsAtRest, OthersStay};
-ghost use Rattle.store.specs.Maps.{Map, AnsweredMap, Represents};
+ghost use Rattle.store.specs.Maps.{Map, AnsweredMap, ServesMap};
 ghost use Rattle.turns.specs.Settled.{IsSettled};
 ghost use Rattle.store.specs.Rounds.{IsBetween, AnsweredIf, LeavesMap};
 
@@ -32,10 +32,10 @@ pub fn serve_round<S: Alter, V: Stable + Lossless, E: Explain<V>, T: Read + Writ
 ) -> Result<(), AllocError>
     // The responses of all connections, in the order of their turns, are those of one map that begins with the rows of the
     // store, and the rows afterwards are the map's last entries. Those of each connection are the ones of its turns.
-    ensures shared { HasCleanDisk (state S.Store service.new) → (m : Map) → Represents (state S.Store service.old) m
+    ensures shared { HasCleanDisk (state S.Store service.new) → (m : Map) → ServesMap (state S.Store service.old) m
         → (turns : Turns) × (after : Map)
         × IsShared (AnsweredMap V.means V.tree) m after (get peers.old) (get peers.new) turns
-        × Represents (state S.Store service.new) after }
+        × ServesMap (state S.Store service.new) after }
 
     // Each connection of these keys has had its turn: if it is still there and open, it has called the service for
     // each whole request that it received, as far as its output has room.

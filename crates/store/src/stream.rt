@@ -4,7 +4,7 @@ ghost use Rattle.std.specs.Io.KnownBytes.{Appends, Consumes};
 ghost use Rattle.http_server.specs.History.{History, IsDone};
 ghost use Rattle.sqlite.specs.Held.{state};
 ghost use Rattle.sqlite.specs.State.{HasCleanDisk};
-ghost use Rattle.store.specs.Maps.{Map, Represents};
+ghost use Rattle.store.specs.Maps.{Map, ServesMap};
 ghost use Rattle.store.specs.Streams.{IsServedByMap};
 
 use crate::explain::Explain;
@@ -31,10 +31,10 @@ pub fn serve_stream<S: Alter, V: Stable + Lossless, E: Explain<V>, R: Read, W: W
     // map that begins with the rows of the store, and the rows afterwards are the map's last entries. If it returns no error,
     // nothing is left to do.
     ensures served { HasCleanDisk (state S.Store service.new) → (m : Map)
-        → Represents (state S.Store service.old) m → (h : History) × (after : Map)
+        → ServesMap (state S.Store service.old) m → (h : History) × (after : Map)
         × Consumes (R.remaining reader.old) (R.remaining reader.new) h.received
         × Appends (W.contents writer.old) (W.contents writer.new) h.sent
-        × IsServedByMap V.means V.tree config h m after × Represents (state S.Store service.new) after
+        × IsServedByMap V.means V.tree config h m after × ServesMap (state S.Store service.new) after
         × OnOk result (IsDone h) }
 {
     let mut connection = Connection::new(alloc, keys, config);

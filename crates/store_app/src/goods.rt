@@ -75,7 +75,7 @@ impl Serialize for Goods {
 }
 
 impl Ranged for Goods {
-    ghost real = { λ v. ⟦<GoodsFields as WrittenFields>⟧.real (⟦<Goods as Record>⟧.values v) };
+    ghost valid = { λ v. ⟦<GoodsFields as WrittenFields>⟧.valid (⟦<Goods as Record>⟧.values v) };
 
     fn ranged(&self) {
         self.name.ranged();

@@ -69,7 +69,7 @@ impl Serialize for State {
 }
 
 impl Ranged for State {
-    ghost real = { λ _. ⊤ };
+    ghost valid = { λ _. ⊤ };
 
     fn ranged(&self) {}
 }
@@ -234,7 +234,7 @@ impl Serialize for Parcel {
 }
 
 impl Ranged for Parcel {
-    ghost real = { λ v. ⟦<ParcelFields as WrittenFields>⟧.real (⟦<Parcel as Record>⟧.values v) };
+    ghost valid = { λ v. ⟦<ParcelFields as WrittenFields>⟧.valid (⟦<Parcel as Record>⟧.values v) };
 
     fn ranged(&self) {
         self.id.ranged();

@@ -76,7 +76,7 @@ impl Serialize for Label {
 }
 
 impl Ranged for Label {
-    ghost real = { λ v. ⟦<LabelFields as WrittenFields>⟧.real (⟦<Label as Record>⟧.values v) };
+    ghost valid = { λ v. ⟦<LabelFields as WrittenFields>⟧.valid (⟦<Label as Record>⟧.values v) };
 
     fn ranged(&self) {
         self.text.ranged();
@@ -178,7 +178,7 @@ impl Serialize for TaskWeighed {
 }
 
 impl Ranged for TaskWeighed {
-    ghost real = { λ v. ⟦<TaskWeighedFields as WrittenFields>⟧.real (⟦<TaskWeighed as Record>⟧.values v) };
+    ghost valid = { λ v. ⟦<TaskWeighedFields as WrittenFields>⟧.valid (⟦<TaskWeighed as Record>⟧.values v) };
 
     fn ranged(&self) {
         self.grams.ranged();
@@ -283,8 +283,7 @@ impl Serialize for TaskSealed {
 }
 
 impl Ranged for TaskSealed {
-    ghost real = { λ v. ⟦<TaskSealedFields as WrittenFields>⟧.real (⟦<TaskSealed as Record>⟧.values
-        v) };
+    ghost valid = { λ v. ⟦<TaskSealedFields as WrittenFields>⟧.valid (⟦<TaskSealed as Record>⟧.values v) };
 
     fn ranged(&self) {
         self.twice.ranged();
@@ -446,7 +445,7 @@ impl Serialize for Task {
 }
 
 impl Ranged for Task {
-    ghost real = { λ v. ⟦<TaskCases as WrittenCases>⟧.real (⟦<Task as DataEnum>⟧.values v) };
+    ghost valid = { λ v. ⟦<TaskCases as WrittenCases>⟧.valid (⟦<Task as DataEnum>⟧.values v) };
 
     fn ranged(&self) {
         match self {

@@ -67,7 +67,7 @@ fn deep_object(alloc: Global, depth: u32) -> Result<Value> {
 }
 
 /// Returns true once values a million levels deep were let go in each way.
-fn are_let_go(alloc: Global) -> Result<bool> {
+fn are_dropped(alloc: Global) -> Result<bool> {
     drop(deep_array(alloc, 1_000_000)?);
     drop(deep_object(alloc, 1_000_000)?);
     safely(deep_array(alloc, 1_000_000)?);
@@ -76,8 +76,8 @@ fn are_let_go(alloc: Global) -> Result<bool> {
 }
 
 #[test]
-fn deep_values_are_let_go(rt: HostRuntime) -> std::result::Result<(), Wrong> {
-    expect_ok(are_let_go(rt.alloc()), "a million levels")
+fn deep_values_are_dropped(rt: HostRuntime) -> std::result::Result<(), Wrong> {
+    expect_ok(are_dropped(rt.alloc()), "a million levels")
 }
 
 /// Returns whether a value a million levels deep and its copy are written as its text.

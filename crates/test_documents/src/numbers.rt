@@ -3,7 +3,7 @@
 use miniserde::error::Result;
 use miniserde::json::{Number, from_str, to_string};
 use std::alloc::Global;
-use test_tables::{Wrong, expect_ok, expect_read_again};
+use test_tables::{Wrong, expect_ok, expect_round_trip};
 
 /// Returns whether a number is shown, and written, as expected.
 fn is_shown(alloc: Global, number: &Number, expected: &str) -> Result<bool> {
@@ -94,6 +94,6 @@ null
 {}"#;
 
 #[test]
-fn a_number_is_read_again(rt: HostRuntime) -> std::result::Result<(), Wrong> {
-    expect_read_again::<Number>(rt.alloc(), NUMBERS)
+fn a_number_round_trips(rt: HostRuntime) -> std::result::Result<(), Wrong> {
+    expect_round_trip::<Number>(rt.alloc(), NUMBERS)
 }

@@ -79,7 +79,7 @@ fn is_deep_document_kept(alloc: Global) -> Result<bool> {
 }
 
 #[test]
-fn a_deep_document_is_read_and_let_go(rt: HostRuntime) -> std::result::Result<(), Wrong> {
+fn a_deep_document_is_read_and_dropped(rt: HostRuntime) -> std::result::Result<(), Wrong> {
     expect_ok(
         is_deep_document_kept(rt.alloc()),
         "100,000 objects and arrays",

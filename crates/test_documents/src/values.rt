@@ -6,7 +6,7 @@ use miniserde::json::{Array, Number, Object, Value, from_str, to_string};
 use std::alloc::Global;
 use std::collections::BTreeMap;
 use std::mem;
-use test_tables::{Wrong, expect, expect_ok, expect_prefixes_invalid, expect_read_again};
+use test_tables::{Wrong, expect, expect_ok, expect_prefixes_invalid, expect_round_trip};
 
 const VALUES: &str = r#"null => same
 true => same
@@ -40,8 +40,8 @@ true => same
 1 2"#;
 
 #[test]
-fn a_value_is_read_again(rt: HostRuntime) -> std::result::Result<(), Wrong> {
-    expect_read_again::<Value>(rt.alloc(), VALUES)
+fn a_value_round_trips(rt: HostRuntime) -> std::result::Result<(), Wrong> {
+    expect_round_trip::<Value>(rt.alloc(), VALUES)
 }
 
 #[test]
@@ -67,18 +67,18 @@ fn a_value_is_null_by_default(rt: HostRuntime) -> std::result::Result<(), Wrong>
 }
 
 #[test]
-fn a_document_is_read_again_in_a_list_or_map(rt: HostRuntime) -> std::result::Result<(), Wrong> {
+fn a_document_round_trips_in_a_list_or_map(rt: HostRuntime) -> std::result::Result<(), Wrong> {
     let alloc = rt.alloc();
-    expect_read_again::<Array>(
+    expect_round_trip::<Array>(
         alloc,
         "[] => same\n[1,2] => same\n[1,[null]] => same\n{}\nnull\n\"a\"\n1\ntrue",
     )?;
-    expect_read_again::<Object>(
+    expect_round_trip::<Object>(
         alloc,
         "{} => same\n{\"B\":null,\"a\":[]} => same\n{\"B\":null,\"a\":null} => same\n[]\n[1]\nnull\n\"a\"\n1\ntrue",
     )?;
-    expect_read_again::<Vec<Value>>(alloc, "[] => same\n[1,{\"a\":[]}] => same\n{}\n[1,]")?;
-    expect_read_again::<BTreeMap<String, (Object, Number)>>(
+    expect_round_trip::<Vec<Value>>(alloc, "[] => same\n[1,{\"a\":[]}] => same\n{}\n[1,]")?;
+    expect_round_trip::<BTreeMap<String, (Object, Number)>>(
         alloc,
         "{\"x\":[{\"a\":1},-7]} => same\n{\"x\":[[],-7]}\n{\"x\":[{},true]}",
     )
@@ -147,7 +147,7 @@ fn a_value_is_shown_by_its_kind(rt: HostRuntime) -> std::result::Result<(), Wron
 }
 
 /// Returns whether a value is let go with its looks counted.
-fn is_let_go(alloc: Global) -> Result<bool> {
+fn is_dropped(alloc: Global) -> Result<bool> {
     let value: Value = from_str(alloc, r#"[1,{"a":[]},"x"]"#)?;
     let mut looks = Looks::new();
     counted(value, &mut looks);
@@ -155,7 +155,7 @@ fn is_let_go(alloc: Global) -> Result<bool> {
 }
 
 #[test]
-fn a_value_is_let_go(rt: HostRuntime) -> std::result::Result<(), Wrong> {
-    expect_ok(is_let_go(rt.alloc()), "a value")?;
+fn a_value_is_dropped(rt: HostRuntime) -> std::result::Result<(), Wrong> {
+    expect_ok(is_dropped(rt.alloc()), "a value")?;
     expect(mem::size_of::<Looks>() == 0, "counts take no bytes")
 }

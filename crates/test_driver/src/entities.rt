@@ -76,7 +76,7 @@ impl Serialize for Hashtag {
 }
 
 impl Ranged for Hashtag {
-    ghost real = { λ v. ⟦<HashtagFields as WrittenFields>⟧.real (⟦<Hashtag as Record>⟧.values v) };
+    ghost valid = { λ v. ⟦<HashtagFields as WrittenFields>⟧.valid (⟦<Hashtag as Record>⟧.values v) };
 
     fn ranged(&self) {
         self.text.ranged();
@@ -153,7 +153,7 @@ impl Serialize for Entities {
 }
 
 impl Ranged for Entities {
-    ghost real = { λ v. ⟦<EntitiesFields as WrittenFields>⟧.real (⟦<Entities as Record>⟧.values v) };
+    ghost valid = { λ v. ⟦<EntitiesFields as WrittenFields>⟧.valid (⟦<Entities as Record>⟧.values v) };
 
     fn ranged(&self) {
         self.hashtags.ranged();
@@ -230,8 +230,7 @@ impl Serialize for MediaPhoto {
 }
 
 impl Ranged for MediaPhoto {
-    ghost real = { λ v. ⟦<MediaPhotoFields as WrittenFields>⟧.real (⟦<MediaPhoto as Record>⟧.values
-        v) };
+    ghost valid = { λ v. ⟦<MediaPhotoFields as WrittenFields>⟧.valid (⟦<MediaPhoto as Record>⟧.values v) };
 
     fn ranged(&self) {
         self.url.ranged();
@@ -308,8 +307,7 @@ impl Serialize for MediaVideo {
 }
 
 impl Ranged for MediaVideo {
-    ghost real = { λ v. ⟦<MediaVideoFields as WrittenFields>⟧.real (⟦<MediaVideo as Record>⟧.values
-        v) };
+    ghost valid = { λ v. ⟦<MediaVideoFields as WrittenFields>⟧.valid (⟦<MediaVideo as Record>⟧.values v) };
 
     fn ranged(&self) {
         self.url.ranged();
@@ -431,7 +429,7 @@ impl Serialize for Media {
 }
 
 impl Ranged for Media {
-    ghost real = { λ v. ⟦<MediaCases as WrittenCases>⟧.real (⟦<Media as DataEnum>⟧.values v) };
+    ghost valid = { λ v. ⟦<MediaCases as WrittenCases>⟧.valid (⟦<Media as DataEnum>⟧.values v) };
 
     fn ranged(&self) {
         match self {

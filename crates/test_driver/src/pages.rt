@@ -68,7 +68,7 @@ impl Serialize for Position {
 }
 
 impl Ranged for Position {
-    ghost real = { λ v. ⟦<PositionFields as WrittenFields>⟧.real (⟦<Position as Record>⟧.values v) };
+    ghost valid = { λ v. ⟦<PositionFields as WrittenFields>⟧.valid (⟦<Position as Record>⟧.values v) };
 
     fn ranged(&self) {
         self.x.ranged();
@@ -168,7 +168,7 @@ impl Serialize for Entry {
 }
 
 impl Ranged for Entry {
-    ghost real = { λ v. ⟦<EntryFields as WrittenFields>⟧.real (⟦<Entry as Record>⟧.values v) };
+    ghost valid = { λ v. ⟦<EntryFields as WrittenFields>⟧.valid (⟦<Entry as Record>⟧.values v) };
 
     fn ranged(&self) {
         self.id.ranged();
@@ -252,7 +252,7 @@ impl Serialize for Page {
 }
 
 impl Ranged for Page {
-    ghost real = { λ v. ⟦<PageFields as WrittenFields>⟧.real (⟦<Page as Record>⟧.values v) };
+    ghost valid = { λ v. ⟦<PageFields as WrittenFields>⟧.valid (⟦<Page as Record>⟧.values v) };
 
     fn ranged(&self) {
         self.total.ranged();

@@ -163,7 +163,7 @@ impl Serialize for Post {
 }
 
 impl Ranged for Post {
-    ghost real = { λ v. ⟦<PostFields as WrittenFields>⟧.real (⟦<Post as Record>⟧.values v) };
+    ghost valid = { λ v. ⟦<PostFields as WrittenFields>⟧.valid (⟦<Post as Record>⟧.values v) };
 
     fn ranged(&self) {
         self.id.ranged();

@@ -71,7 +71,7 @@ impl Serialize for Level {
 }
 
 impl Ranged for Level {
-    ghost real = { λ _. ⊤ };
+    ghost valid = { λ _. ⊤ };
 
     fn ranged(&self) {}
 }
@@ -358,7 +358,7 @@ impl Serialize for Service {
 }
 
 impl Ranged for Service {
-    ghost real = { λ v. ⟦<ServiceFields as WrittenFields>⟧.real (⟦<Service as Record>⟧.values v) };
+    ghost valid = { λ v. ⟦<ServiceFields as WrittenFields>⟧.valid (⟦<Service as Record>⟧.values v) };
 
     fn ranged(&self) {
         self.name.ranged();

@@ -131,7 +131,7 @@ impl Serialize for User {
 }
 
 impl Ranged for User {
-    ghost real = { λ v. ⟦<UserFields as WrittenFields>⟧.real (⟦<User as Record>⟧.values v) };
+    ghost valid = { λ v. ⟦<UserFields as WrittenFields>⟧.valid (⟦<User as Record>⟧.values v) };
 
     fn ranged(&self) {
         self.id.ranged();

@@ -11,7 +11,7 @@ use examples::totals::total;
 use miniserde::error::{Error, Result};
 use miniserde::json::{Number, from_str};
 use std::alloc::Global;
-use test_tables::{Wrong, expect, expect_ok, expect_read_again, is_right, text_of};
+use test_tables::{Wrong, expect, expect_ok, expect_round_trip, is_right, text_of};
 
 const ORDERS: &str =
     r#"{"id":7,"quantity":2,"paid":false,"note":"by noon"} => {"id":7,"quantity":2,"paid":true,"note":"by noon"}
@@ -116,7 +116,7 @@ fn a_fraction_keeps_its_text_and_a_limit_is_the_last(
     rt: HostRuntime,
 ) -> std::result::Result<(), Wrong> {
     let alloc = rt.alloc();
-    expect_read_again::<Number>(alloc, RATIOS)?;
+    expect_round_trip::<Number>(alloc, RATIOS)?;
     expect_ok(has_fraction(alloc, "1.50", Some("1.50")), "a fraction")?;
     expect_ok(has_fraction(alloc, "2", None), "a whole number")?;
     let limits = r#"{"a":1,"b":2,"\u0061":3}"#;

@@ -89,7 +89,7 @@ impl Serialize for Range {
 }
 
 impl Ranged for Range {
-    ghost real = { λ v. ⟦<RangeFields as WrittenFields>⟧.real (⟦<Range as Record>⟧.values v) };
+    ghost valid = { λ v. ⟦<RangeFields as WrittenFields>⟧.valid (⟦<Range as Record>⟧.values v) };
 
     fn ranged(&self) {
         self.most.ranged();
@@ -250,7 +250,7 @@ impl Serialize for Server {
 }
 
 impl Ranged for Server {
-    ghost real = { λ v. ⟦<ServerFields as WrittenFields>⟧.real (⟦<Server as Record>⟧.values v) };
+    ghost valid = { λ v. ⟦<ServerFields as WrittenFields>⟧.valid (⟦<Server as Record>⟧.values v) };
 
     fn ranged(&self) {
         self.name.ranged();

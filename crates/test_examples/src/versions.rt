@@ -5,7 +5,7 @@ use examples::versions::load_order;
 use miniserde::error::Result;
 use miniserde::json::to_string;
 use std::alloc::Global;
-use test_tables::{Wrong, expect, expect_read_again, is_right, text_of};
+use test_tables::{Wrong, expect, expect_round_trip, is_right, text_of};
 
 const TASKS: &str =
     r#"{"id":1,"title":"a","state":"done","colour":7} => {"id":1,"title":"a","state":"done","retries":3,"note":null}
@@ -37,8 +37,8 @@ fn order_of(alloc: Global, text: &str) -> Result<String> {
 #[test]
 fn a_task_or_an_order_of_version_1_is_read(rt: HostRuntime) -> std::result::Result<(), Wrong> {
     let alloc = rt.alloc();
-    expect_read_again::<Task>(alloc, TASKS)?;
-    expect_read_again::<OldTask>(alloc, OLD_TASKS)?;
+    expect_round_trip::<Task>(alloc, TASKS)?;
+    expect_round_trip::<OldTask>(alloc, OLD_TASKS)?;
     for line in ORDERS.lines() {
         expect(is_right(order_of(alloc, text_of(line)), line), line)?;
     }

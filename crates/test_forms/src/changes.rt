@@ -95,8 +95,7 @@ impl Serialize for ChangeMark {
 }
 
 impl Ranged for ChangeMark {
-    ghost real = { λ v. ⟦<ChangeMarkFields as WrittenFields>⟧.real (⟦<ChangeMark as Record>⟧.values
-        v) };
+    ghost valid = { λ v. ⟦<ChangeMarkFields as WrittenFields>⟧.valid (⟦<ChangeMark as Record>⟧.values v) };
 
     fn ranged(&self) {
         self.at.ranged();
@@ -257,7 +256,7 @@ impl Serialize for Change {
 }
 
 impl Ranged for Change {
-    ghost real = { λ v. ⟦<ChangeCases as WrittenCases>⟧.real (⟦<Change as DataEnum>⟧.values v) };
+    ghost valid = { λ v. ⟦<ChangeCases as WrittenCases>⟧.valid (⟦<Change as DataEnum>⟧.values v) };
 
     fn ranged(&self) {
         match self {

@@ -75,7 +75,7 @@ impl Serialize for CommandMove {
 }
 
 impl Ranged for CommandMove {
-    ghost real = { λ v. ⟦<CommandMoveFields as WrittenFields>⟧.real (⟦<CommandMove as Record>⟧.values v) };
+    ghost valid = { λ v. ⟦<CommandMoveFields as WrittenFields>⟧.valid (⟦<CommandMove as Record>⟧.values v) };
 
     fn ranged(&self) {
         self.x.ranged();
@@ -196,7 +196,7 @@ impl Serialize for Command {
 }
 
 impl Ranged for Command {
-    ghost real = { λ v. ⟦<CommandCases as WrittenCases>⟧.real (⟦<Command as DataEnum>⟧.values v) };
+    ghost valid = { λ v. ⟦<CommandCases as WrittenCases>⟧.valid (⟦<Command as DataEnum>⟧.values v) };
 
     fn ranged(&self) {
         match self {

@@ -122,7 +122,7 @@ impl Serialize for Edit {
 }
 
 impl Ranged for Edit {
-    ghost real = { λ v. ⟦<EditCases as WrittenCases>⟧.real (⟦<Edit as DataEnum>⟧.values v) };
+    ghost valid = { λ v. ⟦<EditCases as WrittenCases>⟧.valid (⟦<Edit as DataEnum>⟧.values v) };
 
     fn ranged(&self) {
         match self {

@@ -71,8 +71,7 @@ impl<A: FromJson + Ranged + Serialize, B: FromJson + Ranged + Serialize> Seriali
 }
 
 impl<A: FromJson + Ranged + Serialize, B: FromJson + Ranged + Serialize> Ranged for Both<A, B> {
-    ghost real = { λ v. ⟦<BothFields<A, B> as WrittenFields>⟧.real (⟦<Both<A, B> as Record>⟧.values
-        v) };
+    ghost valid = { λ v. ⟦<BothFields<A, B> as WrittenFields>⟧.valid (⟦<Both<A, B> as Record>⟧.values v) };
 
     fn ranged(&self) {
         self.one.ranged();
@@ -245,7 +244,7 @@ impl<T: FromJson + Ranged + Serialize, E: FromJson + Ranged + Serialize> Seriali
 }
 
 impl<T: FromJson + Ranged + Serialize, E: FromJson + Ranged + Serialize> Ranged for Reply<T, E> {
-    ghost real = { λ v. ⟦<ReplyFields<T, E> as WrittenFields>⟧.real (⟦<Reply<T, E> as Record>⟧.values v) };
+    ghost valid = { λ v. ⟦<ReplyFields<T, E> as WrittenFields>⟧.valid (⟦<Reply<T, E> as Record>⟧.values v) };
 
     fn ranged(&self) {
         self.data.ranged();

@@ -127,7 +127,7 @@ impl Serialize for Host {
 }
 
 impl Ranged for Host {
-    ghost real = { λ v. ⟦<HostFields as WrittenFields>⟧.real (⟦<Host as Record>⟧.values v) };
+    ghost valid = { λ v. ⟦<HostFields as WrittenFields>⟧.valid (⟦<Host as Record>⟧.values v) };
 
     fn ranged(&self) {
         self.name.ranged();

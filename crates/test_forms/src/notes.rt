@@ -141,7 +141,7 @@ impl Serialize for Order {
 }
 
 impl Ranged for Order {
-    ghost real = { λ v. ⟦<OrderFields as WrittenFields>⟧.real (⟦<Order as Record>⟧.values v) };
+    ghost valid = { λ v. ⟦<OrderFields as WrittenFields>⟧.valid (⟦<Order as Record>⟧.values v) };
 
     fn ranged(&self) {
         self.total.ranged();
@@ -334,7 +334,7 @@ impl Serialize for Note {
 }
 
 impl Ranged for Note {
-    ghost real = { λ v. ⟦<NoteFields as WrittenFields>⟧.real (⟦<Note as Record>⟧.values v) };
+    ghost valid = { λ v. ⟦<NoteFields as WrittenFields>⟧.valid (⟦<Note as Record>⟧.values v) };
 
     fn ranged(&self) {
         self.text.ranged();

@@ -3,7 +3,7 @@
 use crate::commands::Command;
 use crate::notes::Note;
 use crate::pages::{Entry, Page};
-use test_tables::{Wrong, expect_prefixes_invalid, expect_read_again, expect_read_itself};
+use test_tables::{Wrong, expect_prefixes_invalid, expect_read_itself, expect_round_trip};
 
 const NOTES: &str =
     r#"{"text":"t","name":"n","*":5,"points":[1,2],"a":true,"b":false,"c":true,"d":false,"host":{"name":"a","port":1,"command":"Ping"}} => same
@@ -54,8 +54,8 @@ const ORDERS: &str =
 
 #[test]
 fn a_field_that_is_none_is_left_out(rt: HostRuntime) -> Result<(), Wrong> {
-    expect_read_again::<Note>(rt.alloc(), NOTES)?;
-    expect_read_again::<Note>(rt.alloc(), ORDERS)?;
+    expect_round_trip::<Note>(rt.alloc(), NOTES)?;
+    expect_round_trip::<Note>(rt.alloc(), ORDERS)?;
     expect_read_itself::<Command>(rt.alloc(), MOVES)?;
     expect_prefixes_invalid::<Command>(rt.alloc(), r#"{"Move":{"x":1,"y":2}}"#)
 }
@@ -80,5 +80,5 @@ const ENTRIES: &str = r#""signed-out" => same
 #[test]
 fn a_parameter_is_left_out(rt: HostRuntime) -> Result<(), Wrong> {
     expect_read_itself::<Page<Command>>(rt.alloc(), OF)?;
-    expect_read_again::<Entry<u8>>(rt.alloc(), ENTRIES)
+    expect_round_trip::<Entry<u8>>(rt.alloc(), ENTRIES)
 }

@@ -81,7 +81,7 @@ impl<T: FromJson + Ranged + Serialize> Serialize for Page<T> {
 }
 
 impl<T: FromJson + Ranged + Serialize> Ranged for Page<T> {
-    ghost real = { λ v. ⟦<PageFields<T> as WrittenFields>⟧.real (⟦<Page<T> as Record>⟧.values v) };
+    ghost valid = { λ v. ⟦<PageFields<T> as WrittenFields>⟧.valid (⟦<Page<T> as Record>⟧.values v) };
 
     fn ranged(&self) {
         self.items.ranged();
@@ -176,7 +176,7 @@ impl<T: FromJson + Ranged + Serialize> Serialize for EntryLogEntry<T> {
 }
 
 impl<T: FromJson + Ranged + Serialize> Ranged for EntryLogEntry<T> {
-    ghost real = { λ v. ⟦<EntryLogEntryFields<T> as WrittenFields>⟧.real (⟦<EntryLogEntry<T> as Record>⟧.values v) };
+    ghost valid = { λ v. ⟦<EntryLogEntryFields<T> as WrittenFields>⟧.valid (⟦<EntryLogEntry<T> as Record>⟧.values v) };
 
     fn ranged(&self) {
         self.log_level.ranged();
@@ -492,7 +492,7 @@ impl<T: FromJson + Ranged + Serialize> Serialize for Entry<T> {
 }
 
 impl<T: FromJson + Ranged + Serialize> Ranged for Entry<T> {
-    ghost real = { λ v. ⟦<EntryCases<T> as WrittenCases>⟧.real (⟦<Entry<T> as DataEnum>⟧.values v) };
+    ghost valid = { λ v. ⟦<EntryCases<T> as WrittenCases>⟧.valid (⟦<Entry<T> as DataEnum>⟧.values v) };
 
     fn ranged(&self) {
         match self {

@@ -65,7 +65,7 @@ impl Serialize for Phase {
 }
 
 impl Ranged for Phase {
-    ghost real = { λ _. ⊤ };
+    ghost valid = { λ _. ⊤ };
 
     fn ranged(&self) {}
 }

@@ -313,7 +313,7 @@ impl Serialize for Server {
 }
 
 impl Ranged for Server {
-    ghost real = { λ v. ⟦<ServerFields as WrittenFields>⟧.real (⟦<Server as Record>⟧.values v) };
+    ghost valid = { λ v. ⟦<ServerFields as WrittenFields>⟧.valid (⟦<Server as Record>⟧.values v) };
 
     fn ranged(&self) {
         self.name.ranged();

@@ -3,7 +3,7 @@
 use crate::generic::{Both, Reply};
 use demo::{Example, StrictDemo};
 use std::collections::BTreeMap;
-use test_tables::{Wrong, expect_read_again, expect_read_itself};
+use test_tables::{Wrong, expect_read_itself, expect_round_trip};
 
 type Listener = Both<String, u16>;
 
@@ -30,8 +30,8 @@ const NAMED: &str = r#"{} => same
 fn lists_and_maps_of_structs_have_their_leaves(rt: HostRuntime) -> Result<(), Wrong> {
     expect_read_itself::<Vec<Reply<Listener, Listener>>>(rt.alloc(), LISTENERS)?;
     expect_read_itself::<Vec<Reply<Listener, Listener>>>(rt.alloc(), BOXED)?;
-    expect_read_again::<Vec<Example>>(rt.alloc(), EXAMPLES)?;
-    expect_read_again::<BTreeMap<String, Example>>(rt.alloc(), NAMED)
+    expect_round_trip::<Vec<Example>>(rt.alloc(), EXAMPLES)?;
+    expect_round_trip::<BTreeMap<String, Example>>(rt.alloc(), NAMED)
 }
 
 const REPEATS: &str = r#"{"code":1,"message":"a"} => same
@@ -43,5 +43,5 @@ const REPEATS: &str = r#"{"code":1,"message":"a"} => same
 
 #[test]
 fn a_strict_struct_takes_each_of_its_names_once(rt: HostRuntime) -> Result<(), Wrong> {
-    expect_read_again::<StrictDemo>(rt.alloc(), REPEATS)
+    expect_round_trip::<StrictDemo>(rt.alloc(), REPEATS)
 }

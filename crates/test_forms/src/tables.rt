@@ -6,7 +6,7 @@ use crate::notes::Order;
 use crate::pages::{Entry, Page};
 use miniserde::json::Number;
 use std::collections::BTreeMap;
-use test_tables::{Wrong, expect_read_again, expect_read_itself};
+use test_tables::{Wrong, expect_read_itself, expect_round_trip};
 
 // An enum in a struct in an enum.
 const HOSTS: &str = r#""up" => same
@@ -109,9 +109,9 @@ const STYLED: &str = r#""signed-out" => same
 
 #[test]
 fn each_of_sixteen_variants(rt: HostRuntime) -> Result<(), Wrong> {
-    expect_read_again::<Entry<u8>>(rt.alloc(), HOSTS)?;
-    expect_read_again::<Entry<u8>>(rt.alloc(), SIXTEEN)?;
-    expect_read_again::<Entry<Command>>(rt.alloc(), STYLED)
+    expect_round_trip::<Entry<u8>>(rt.alloc(), HOSTS)?;
+    expect_round_trip::<Entry<u8>>(rt.alloc(), SIXTEEN)?;
+    expect_round_trip::<Entry<Command>>(rt.alloc(), STYLED)
 }
 
 // What a shop keeps: orders, a number, what it sold by country, and rates.
@@ -131,5 +131,5 @@ const LEDGERS: &str = r#"[[],0,{},{}] => same
 #[test]
 fn a_page_of_commands_and_a_ledger_of_orders(rt: HostRuntime) -> Result<(), Wrong> {
     expect_read_itself::<Page<Command>>(rt.alloc(), PAGES)?;
-    expect_read_again::<Ledger>(rt.alloc(), LEDGERS)
+    expect_round_trip::<Ledger>(rt.alloc(), LEDGERS)
 }

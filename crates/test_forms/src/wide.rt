@@ -1,7 +1,7 @@
 //! A struct of thirty fields, read, refused and read again.
 
 use crate::server::Server;
-use test_tables::{Wrong, expect_read_again};
+use test_tables::{Wrong, expect_round_trip};
 
 const SERVERS: &str =
     r#"{"name":"a","id":1,"region":"","zone":null,"version":2,"active":true,"owner":7,"aliases":["b","c"],"weights":[],"listener":{"one":"::","two":1},"more_listeners":[{"one":"x","two":2}],"backup":{"one":"y","two":3},"by_zone":{"z":{"one":"","two":65535}},"limits":{"m":18446744073709551615},"labels":{"k":["v"]},"memory":0,"processors":255,"nice":-128,"offset":-9223372036854775808,"window":[1,2],"cache":5,"log":null,"verbose":false,"retries":9,"timeout":30,"proxy":"p","secret":"s","tags":["t"],"flags":{"f":true},"note":"n"} => same
@@ -23,5 +23,5 @@ const SERVERS: &str =
 
 #[test]
 fn thirty_settings_are_read_by_their_marks(rt: HostRuntime) -> Result<(), Wrong> {
-    expect_read_again::<Server>(rt.alloc(), SERVERS)
+    expect_round_trip::<Server>(rt.alloc(), SERVERS)
 }

@@ -61,7 +61,7 @@ impl Serialize for UserId {
 }
 
 impl Ranged for UserId {
-    ghost real = { λ v. ⟦<u64 as Ranged>⟧.real v.0 };
+    ghost valid = { λ v. ⟦<u64 as Ranged>⟧.valid v.0 };
 
     fn ranged(&self) {
         self.0.ranged()
@@ -232,7 +232,8 @@ impl Serialize for Slug {
 }
 
 impl Ranged for Slug {
-    ghost real = { λ v. ⟦<String as Ranged>⟧.real v.value × (is_slug (string_bytes v.value) ≡ true) };
+    ghost valid = { λ v. ⟦<String as Ranged>⟧.valid v.value × (is_slug (string_bytes v.value) ≡
+        true) };
 
     fn ranged(&self) {
         self.value.ranged()
@@ -339,7 +340,7 @@ impl<T: Serialize> Serialize for Tagged<T> {
 }
 
 impl<T: Ranged> Ranged for Tagged<T> {
-    ghost real = { λ v. T.real v.0 };
+    ghost valid = { λ v. T.valid v.0 };
 
     fn ranged(&self) {
         self.0.ranged()
@@ -484,7 +485,7 @@ impl Serialize for Account {
 }
 
 impl Ranged for Account {
-    ghost real = { λ v. ⟦<AccountFields as WrittenFields>⟧.real (⟦<Account as Record>⟧.values v) };
+    ghost valid = { λ v. ⟦<AccountFields as WrittenFields>⟧.valid (⟦<Account as Record>⟧.values v) };
 
     fn ranged(&self) {
         self.owner.ranged();

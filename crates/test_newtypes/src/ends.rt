@@ -69,7 +69,7 @@ impl<T: FromJson + Ranged + Serialize> Serialize for Ends<T> {
 }
 
 impl<T: FromJson + Ranged + Serialize> Ranged for Ends<T> {
-    ghost real = { λ v. ⟦<EndsFields<T> as WrittenFields>⟧.real (⟦<Ends<T> as Record>⟧.values v) };
+    ghost valid = { λ v. ⟦<EndsFields<T> as WrittenFields>⟧.valid (⟦<Ends<T> as Record>⟧.values v) };
 
     fn ranged(&self) {
         self.from.ranged();

@@ -69,7 +69,7 @@ impl Serialize for Celsius {
 }
 
 impl Ranged for Celsius {
-    ghost real = { λ v. ⟦<i16 as Ranged>⟧.real v.value × (is_celsius v.value ≡ true) };
+    ghost valid = { λ v. ⟦<i16 as Ranged>⟧.valid v.value × (is_celsius v.value ≡ true) };
 
     fn ranged(&self) {
         self.value.ranged()
@@ -121,7 +121,7 @@ impl Serialize for Offset {
 }
 
 impl Ranged for Offset {
-    ghost real = { λ v. ⟦<i32 as Ranged>⟧.real v.0 };
+    ghost valid = { λ v. ⟦<i32 as Ranged>⟧.valid v.0 };
 
     fn ranged(&self) {
         self.0.ranged()
@@ -201,7 +201,7 @@ impl Serialize for Name {
 }
 
 impl Ranged for Name {
-    ghost real = { λ v. ⟦<String as Ranged>⟧.real v.0 };
+    ghost valid = { λ v. ⟦<String as Ranged>⟧.valid v.0 };
 
     fn ranged(&self) {
         self.0.ranged()
@@ -285,7 +285,7 @@ impl Serialize for Flag {
 }
 
 impl Ranged for Flag {
-    ghost real = { λ v. ⟦<bool as Ranged>⟧.real v.0 };
+    ghost valid = { λ v. ⟦<bool as Ranged>⟧.valid v.0 };
 
     fn ranged(&self) {
         self.0.ranged()
@@ -335,7 +335,7 @@ impl ExactKey for Flag {
 pub struct Initial(pub char);
 
 impl Ranged for Initial {
-    ghost real = { λ v. ⟦<char as Ranged>⟧.real v.0 };
+    ghost valid = { λ v. ⟦<char as Ranged>⟧.valid v.0 };
 
     fn ranged(&self) {
         self.0.ranged()
@@ -415,7 +415,7 @@ impl Serialize for Maybe {
 }
 
 impl Ranged for Maybe {
-    ghost real = { λ v. ⟦<Option<u8> as Ranged>⟧.real v.0 };
+    ghost valid = { λ v. ⟦<Option<u8> as Ranged>⟧.valid v.0 };
 
     fn ranged(&self) {
         self.0.ranged()

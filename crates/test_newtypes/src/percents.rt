@@ -71,7 +71,7 @@ impl Serialize for Percent {
 }
 
 impl Ranged for Percent {
-    ghost real = { λ v. ⟦<u8 as Ranged>⟧.real v.value × (at_most_100 v.value ≡ true) };
+    ghost valid = { λ v. ⟦<u8 as Ranged>⟧.valid v.value × (at_most_100 v.value ≡ true) };
 
     fn ranged(&self) {
         self.value.ranged()

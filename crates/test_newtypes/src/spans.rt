@@ -66,7 +66,7 @@ impl Serialize for Span {
 }
 
 impl Ranged for Span {
-    ghost real = { λ v. ⟦<Ends<u32> as Ranged>⟧.real v.value × (is_ordered (⟦<Ends<u32> as FromJson>⟧.means.content v.value) ≡ true) };
+    ghost valid = { λ v. ⟦<Ends<u32> as Ranged>⟧.valid v.value × (is_ordered (⟦<Ends<u32> as FromJson>⟧.means.content v.value) ≡ true) };
 
     fn ranged(&self) {
         self.value.ranged()

@@ -8,7 +8,7 @@ use crate::percents::Percent;
 use crate::spans::Span;
 use miniserde::json::Document;
 use std::collections::BTreeMap;
-use test_tables::{Wrong, expect_read_again, expect_read_itself, expect_table};
+use test_tables::{Wrong, expect_read_itself, expect_round_trip, expect_table};
 
 const USER_IDS: &str = r#"0 => same
  18446744073709551615  => 18446744073709551615
@@ -197,7 +197,7 @@ fn texts_of_newtypes(rt: HostRuntime) -> Result<(), Wrong> {
     expect_read_itself::<UserId>(alloc, USER_IDS)?;
     expect_read_itself::<Percent>(alloc, PERCENTS)?;
     expect_read_itself::<Tagged<Percent>>(alloc, PERCENTS)?;
-    expect_read_again::<Celsius>(alloc, TEMPERATURES)?;
+    expect_round_trip::<Celsius>(alloc, TEMPERATURES)?;
     expect_read_itself::<Slug>(alloc, SLUGS)?;
     expect_read_itself::<Tagged<Vec<Percent>>>(alloc, LISTS)?;
     expect_read_itself::<Maybe>(alloc, MAYBES)?;
@@ -225,13 +225,13 @@ fn newtypes_as_keys(rt: HostRuntime) -> Result<(), Wrong> {
 fn newtypes_in_structs(rt: HostRuntime) -> Result<(), Wrong> {
     let alloc = rt.alloc();
     expect_read_itself::<Account>(alloc, ACCOUNTS)?;
-    expect_read_again::<Span>(alloc, SPANS)?;
+    expect_round_trip::<Span>(alloc, SPANS)?;
     expect_read_itself::<Ends<UserId>>(alloc, NUMBERS)?;
     expect_read_itself::<Ends<Tagged<u16>>>(alloc, NUMBERS)?;
-    expect_read_again::<Ends<Offset>>(alloc, OFFSETS)?;
+    expect_round_trip::<Ends<Offset>>(alloc, OFFSETS)?;
     expect_read_itself::<Ends<Percent>>(alloc, PERCENT_ENDS)?;
     expect_read_itself::<Ends<Slug>>(alloc, SLUG_ENDS)?;
-    expect_read_again::<Ends<Name>>(alloc, NAME_ENDS)?;
-    expect_read_again::<Ends<Flag>>(alloc, FLAG_ENDS)?;
+    expect_round_trip::<Ends<Name>>(alloc, NAME_ENDS)?;
+    expect_round_trip::<Ends<Flag>>(alloc, FLAG_ENDS)?;
     expect_read_itself::<Ends<Maybe>>(alloc, MAYBE_ENDS)
 }

@@ -5,9 +5,9 @@ use Rattle.std.proofs.lemmas.List.Sorted.{length_permutation}
 use Rattle.sqlite.specs.declared.types.Value.{Value}
 use Rattle.sqlite.specs.Effect.{Database}
 use Rattle.rows.specs.Entries.{key_of, body_of, words_of}
-use Rattle.rows.specs.Visits.{Entry, Takes, GoesOn, TakesAll}
+use Rattle.rows.specs.Visits.{Entry, VisitStep, GoesOn, TakesAll}
 
-module _ {V : Type 0} (takes : Takes V) (count : V → ℕ)
+module _ {V : Type 0} (takes : VisitStep V) (count : V → ℕ)
     (adds : (v w : V) (e : Entry) → takes v e.0 e.1 (Ok true) w → count w ≡ count v + 1) where
   counts : (entries : List Entry) (v w : V) → GoesOn takes v entries w → count w ≡ count v + length entries
   counts [] v w same = ap count (sym same) ∙ omega arith

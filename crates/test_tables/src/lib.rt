@@ -10,6 +10,6 @@ mod wrong;
 
 pub use stable::{expect_canonical_of, expect_one_value, expect_refused, expect_two_values};
 pub use table::{
-    expect_prefixes_invalid, expect_read_again, expect_read_itself, expect_table, is_right, text_of,
+    expect_prefixes_invalid, expect_read_itself, expect_round_trip, expect_table, is_right, text_of,
 };
 pub use wrong::{Wrong, expect, expect_ok};

@@ -48,7 +48,7 @@ fn written_again<T: RoundTrip>(alloc: Global, text: &str) -> Result<String> {
 }
 
 /// Fails with the first line of a table that is wrong for a type whose values are read again, if any.
-pub fn expect_read_again<T: RoundTrip>(
+pub fn expect_round_trip<T: RoundTrip>(
     alloc: Global,
     table: &'static str,
 ) -> std::result::Result<(), Wrong> {

@@ -4,7 +4,7 @@ use demo::{Demo, Example, Nested, Tag};
 use miniserde::error::Result;
 use miniserde::json::from_str;
 use std::alloc::Global;
-use test_tables::{Wrong, expect_ok, expect_prefixes_invalid, expect_read_again, expect_table};
+use test_tables::{Wrong, expect_ok, expect_prefixes_invalid, expect_round_trip, expect_table};
 
 const DEMO: &str =
     r#" {"code": 200, "message": "reminiscent of Serde"}  => {"code":200,"message":"reminiscent of Serde"}
@@ -78,6 +78,6 @@ fn a_struct_of_structs_and_an_unknown_member_are_read(
     let alloc = rt.alloc();
     expect_table::<Tag>(alloc, TAGS)?;
     expect_table::<Nested>(alloc, r#"{} => {"y":null,"z":null}"#)?;
-    expect_read_again::<Example>(alloc, EXAMPLE)?;
+    expect_round_trip::<Example>(alloc, EXAMPLE)?;
     expect_ok(is_deep_member_skipped(alloc, 200_000), "200,000 deep")
 }

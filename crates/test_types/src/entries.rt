@@ -89,7 +89,7 @@ impl Serialize for Entry {
 }
 
 impl Ranged for Entry {
-    ghost real = { λ v. v.code < 2 ^ 32 };
+    ghost valid = { λ v. v.code < 2 ^ 32 };
 
     fn ranged(&self) {
         self.code.ranged();
@@ -105,11 +105,11 @@ impl RoundTrip for Entry {
 #[cfg(test)]
 mod tests {
     use super::Entry;
-    use test_tables::{Wrong, expect_read_again};
+    use test_tables::{Wrong, expect_round_trip};
 
     #[test]
-    fn an_entry_is_read_again(rt: HostRuntime) -> Result<(), Wrong> {
-        expect_read_again::<Entry>(
+    fn an_entry_round_trips(rt: HostRuntime) -> Result<(), Wrong> {
+        expect_round_trip::<Entry>(
             rt.alloc(),
             " [ 7, \"a\\/\" ]  => [7,\"a/\"]\n[4294967295,\"\"] => same\n[7]\n[\"a\",7]\n[4294967296,\"\"]\n{}",
         )

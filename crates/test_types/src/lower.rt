@@ -23,7 +23,7 @@ pub struct Lower {
 }
 
 impl Ranged for Lower {
-    ghost real = { λ k. AreLower (string_bytes k.letters) };
+    ghost valid = { λ k. AreLower (string_bytes k.letters) };
 
     fn ranged(&self) {
         let _letters = self.letters.as_str();

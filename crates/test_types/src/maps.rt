@@ -122,7 +122,7 @@ fn a_key_is_of_its_type(rt: HostRuntime) -> Result<(), Wrong> {
 }
 
 #[test]
-fn a_map_is_read_again_as_itself(rt: HostRuntime) -> Result<(), Wrong> {
+fn a_map_round_trips_as_itself(rt: HostRuntime) -> Result<(), Wrong> {
     let alloc = rt.alloc();
     expect_table::<BTreeMap<u8, Vec<u8>>>(alloc, REPEATS)?;
     expect_table::<Hashed<u8, Vec<u8>>>(alloc, REPEATS)?;

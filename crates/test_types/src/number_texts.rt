@@ -2,7 +2,7 @@
 
 use miniserde::json::{Number, Value};
 use std::collections::BTreeMap;
-use test_tables::{Wrong, expect_read_again, expect_read_itself};
+use test_tables::{Wrong, expect_read_itself, expect_round_trip};
 
 const UNSIGNED: &str = r#"1 => same
 -1
@@ -76,8 +76,8 @@ fn a_number_is_read_by_its_type(rt: HostRuntime) -> Result<(), Wrong> {
     expect_read_itself::<i32>(alloc, SIGNED)?;
     expect_read_itself::<i64>(alloc, SIGNED)?;
     expect_read_itself::<isize>(alloc, SIGNED)?;
-    expect_read_again::<Number>(alloc, NUMBERS)?;
-    expect_read_again::<Value>(alloc, VALUES)?;
+    expect_round_trip::<Number>(alloc, NUMBERS)?;
+    expect_round_trip::<Value>(alloc, VALUES)?;
     expect_read_itself::<String>(alloc, STRINGS)?;
     expect_read_itself::<BTreeMap<u64, bool>>(alloc, UNSIGNED_KEYS)?;
     expect_read_itself::<BTreeMap<i64, bool>>(alloc, SIGNED_KEYS)

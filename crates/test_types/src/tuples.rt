@@ -9,8 +9,8 @@ use miniserde::json::from_str;
 use miniserde::{Lossless, read_itself};
 use std::alloc::Global;
 use test_tables::{
-    Wrong, expect_ok, expect_one_value, expect_prefixes_invalid, expect_read_again,
-    expect_read_itself, expect_table,
+    Wrong, expect_ok, expect_one_value, expect_prefixes_invalid, expect_read_itself,
+    expect_round_trip, expect_table,
 };
 
 /// Fails with the first line of a table that is wrong for a type, when its values are written at once or read again.
@@ -19,7 +19,7 @@ pub fn expect_each<T: Lossless>(
     table: &'static str,
 ) -> std::result::Result<(), Wrong> {
     expect_table::<T>(alloc, table)?;
-    expect_read_again::<T>(alloc, table)?;
+    expect_round_trip::<T>(alloc, table)?;
     expect_read_itself::<T>(alloc, table)
 }
 

@@ -6,7 +6,7 @@ use miniserde::error::Result;
 use miniserde::json::from_str;
 use std::alloc::Global;
 use std::borrow::CowStr;
-use test_tables::{Wrong, expect_ok, expect_read_again, expect_read_itself, expect_table};
+use test_tables::{Wrong, expect_ok, expect_read_itself, expect_round_trip, expect_table};
 
 /// Returns whether `null` is read as `None`.
 fn null_is_none<T: FromJson>(alloc: Global) -> Result<bool> {
@@ -29,13 +29,13 @@ fn an_optional_or_boxed_value_is_the_value(rt: HostRuntime) -> std::result::Resu
         alloc,
         "[null,3] => same\n[] => same\n[null 3]\n[null,]\nnull",
     )?;
-    expect_read_again::<Option<Option<u8>>>(alloc, "null => same\n255 => same\n256")?;
-    expect_read_again::<Option<Vec<Option<bool>>>>(
+    expect_round_trip::<Option<Option<u8>>>(alloc, "null => same\n255 => same\n256")?;
+    expect_round_trip::<Option<Vec<Option<bool>>>>(
         alloc,
         "null => same\n[] => same\n[true,null] => same\n[true,0]",
     )?;
     expect_table::<Box<u8>>(alloc, " 7  => 7\n0 => same\n255 => same\nnull\n[1]\n256")?;
-    expect_read_again::<Box<Option<u8>>>(alloc, "null => same\n1 => same\n256")?;
+    expect_round_trip::<Box<Option<u8>>>(alloc, "null => same\n1 => same\n256")?;
     expect_read_itself::<Box<Vec<Box<u8>>>>(alloc, "[1,2] => same\n[1,null]")
 }
 

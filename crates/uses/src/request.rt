@@ -87,7 +87,7 @@ impl Serialize for Request {
 }
 
 impl Ranged for Request {
-    ghost real = { λ v. ⟦<RequestFields as WrittenFields>⟧.real (⟦<Request as Record>⟧.values v) };
+    ghost valid = { λ v. ⟦<RequestFields as WrittenFields>⟧.valid (⟦<Request as Record>⟧.values v) };
 
     fn ranged(&self) {
         self.client.ranged();

@@ -36,7 +36,7 @@ pub fn put(
 pub fn find(alloc: Global, rows: &BTreeMap<u64, String>, number: u64) -> Result<Option<Request>>
     // If the row spells a request's tree, as `put` leaves it, the answer has that tree.
     ensures some { IfOk result (λ answer. IfSome answer (λ read. (row : String Global) (v : Request)
-        → get nat_cmp rows.now number ≡ Some row → ⟦<Request as Ranged>⟧.real v
+        → get nat_cmp rows.now number ≡ Some row → ⟦<Request as Ranged>⟧.valid v
         → IsJson (string_bytes row) (⟦<Request as Serialize>⟧.tree v)
         → ⟦<Request as Serialize>⟧.tree read ≡ ⟦<Request as Serialize>⟧.tree v)) }
 
@@ -45,7 +45,7 @@ pub fn find(alloc: Global, rows: &BTreeMap<u64, String>, number: u64) -> Result<
 
     // There is one, and it spells no request's tree.
     ensures invalid { result ≡ Err Error.Invalid → (row : String Global) × (get nat_cmp rows.now number ≡ Some row)
-        × ((v : Request) → ⟦<Request as Ranged>⟧.real v → IsJson (string_bytes row) (⟦<Request as Serialize>⟧.tree v) → ⊥) }
+        × ((v : Request) → ⟦<Request as Ranged>⟧.valid v → IsJson (string_bytes row) (⟦<Request as Serialize>⟧.tree v) → ⊥) }
 {
     match rows.get(&number) {
         Some(row) => {

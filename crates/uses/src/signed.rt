@@ -33,7 +33,7 @@ pub fn accepted<T: Stable + Lossless, S: Signature>(
     // A text that means the value is signed. If it is the canonical text of a value, the answer has its content.
     ensures some { IfOk result (λ answer. IfSome answer (λ read. (text : List ℕ) × S.signed signature.now text
         × ((u : Tree) × IsJson text u × T.means.reads u read)
-        × ((v : T) → T.real v → IsJson text (norm (T.tree v)) → T.means.content read ≡ T.means.content v))) }
+        × ((v : T) → T.valid v → IsJson text (norm (T.tree v)) → T.means.content read ≡ T.means.content v))) }
 
     // The canonical text of the body is not signed.
     ensures none { result ≡ Ok None → (t : Tree) → IsJson body.now t → S.signed signature.now (compact (norm t)) → ⊥ }

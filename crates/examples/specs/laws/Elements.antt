@@ -3,7 +3,7 @@ use Rattle.std.specs.Prelude.{◌≡◌, ℕ, ◌+◌, ◌-◌, List, [], ◌∷
 use Rattle.std.proofs.Common.{◌∙◌, ap, sym, append_assoc, arith}
 use Rattle.miniserde.specs.Tree.{Tree, list, members, Trees, no_trees, tree, Members, no_members, member}
 use Rattle.miniserde.specs.Step.{Step, element, finish, events, child_events, member_events}
-use Rattle.examples.specs.Elements.{number_of, elements_of, more, counted}
+use Rattle.examples.specs.Elements.{count_trees, elements_of, more, counted}
 
 -- a container inside an element closes
 back : (d : ℕ) (es : List Step) → more (d + 2) (finish ∷ es) ≡ more (d + 1) es
@@ -52,18 +52,18 @@ mutual
       ∙ members_skip ms d es
 
 -- each child of the list itself counts one
-children_count : (ts : Trees) (es : List Step) → more 1 (child_events ts ++ es) ≡ number_of ts + more 1 es
+children_count : (ts : Trees) (es : List Step) → more 1 (child_events ts ++ es) ≡ count_trees ts + more 1 es
 children_count no_trees es = omega arith
 children_count (tree t ts) es =
     let a : more 1 ((events t ++ child_events ts) ++ es) ≡ more 1 (child_events ts ++ es) =
     ap (λ r. more 1 r) (append_assoc (events t) (child_events ts) es) ∙ value_skips t 0 (child_events ts ++ es) in
-    let b : more 1 (child_events ts ++ es) ≡ number_of ts + more 1 es = children_count ts es in
+    let b : more 1 (child_events ts ++ es) ≡ count_trees ts + more 1 es = children_count ts es in
     omega (arith, a, b)
 
 -- the count by the events of a tree is what `elements_of` returns for the tree
 pub events_count : (t : Tree) → counted (events t) ≡ elements_of t
 events_count (list ts) =
-    let a : more 1 (child_events ts ++ finish ∷ []) ≡ number_of ts + 0 = children_count ts (finish ∷ []) in
-    let b : more 1 (child_events ts ++ finish ∷ []) ≡ number_of ts = omega (arith, a) in
+    let a : more 1 (child_events ts ++ finish ∷ []) ≡ count_trees ts + 0 = children_count ts (finish ∷ []) in
+    let b : more 1 (child_events ts ++ finish ∷ []) ≡ count_trees ts = omega (arith, a) in
     ap (λ n. Some n) b
 events_count t = refl

@@ -5,9 +5,9 @@ use Rattle.std.specs.Prelude.{◌≡◌, ℕ, true, false, List, ◌++◌, lengt
 use Rattle.miniserde_model.specs.private.Reading.{Moment, due, first, after}
 use Rattle.miniserde_canonical.specs.CanonicalToken.{CanonicalToken}
 use Rattle.miniserde_canonical.specs.declared.draft.Draft.{Draft}
-use Rattle.miniserde_canonical.specs.private.Spreads.{SplicesInOrder}
-use Rattle.miniserde_canonical.specs.private.Sorting.{Chain}
-use Rattle.miniserde_canonical.specs.private.Arranging.{State, TokenSteps}
+use Rattle.miniserde_canonical.specs.private.SplicedTexts.{SplicesInOrder}
+use Rattle.miniserde_canonical.specs.private.SortMembers.{Chain}
+use Rattle.miniserde_canonical.specs.private.States.{State, TokenSteps}
 
 -- The input is `front`, then `run`, which is read but not in the draft's text yet, then `rest`, which is left to read.
 -- The draft's `left` counts the bytes of `run` and `rest`. The draft's text followed by `run` is the bytes bs.

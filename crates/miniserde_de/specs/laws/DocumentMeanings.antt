@@ -5,7 +5,7 @@ use Rattle.miniserde_model.specs.Step.{Step, seq, map, events}
 use Rattle.miniserde_model.specs.Normal.{norm}
 use Rattle.miniserde_value.specs.Retained.{retained_tree}
 use Rattle.miniserde_value.specs.Hole.{outside}
-use Rattle.miniserde_value.specs.Kinds.{only_list, only_members}
+use Rattle.miniserde_value.specs.OnlyContainers.{only_list, only_members}
 use Rattle.miniserde_value.specs.Meanings.{json_array_meaning, json_object_meaning, document_meaning}
 use Rattle.miniserde_value.specs.declared.json.array.Array.{Array}
 use Rattle.miniserde_value.specs.declared.json.object.Object.{Object}

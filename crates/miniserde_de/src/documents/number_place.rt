@@ -1,7 +1,7 @@
 //! The place of `Number`.
 ghost use Rattle.std.specs.Prelude.{◌≡◌, true, is_some};
 ghost use Rattle.miniserde_read.specs.Events.{event_of, on_leaf};
-ghost use Rattle.miniserde_value.specs.Numbers.{number_of};
+ghost use Rattle.miniserde_value.specs.Numbers.{if_number};
 
 use crate::de::{Deserialize, Step, Visitor};
 use miniserde_model::error::{Error, Result};
@@ -18,7 +18,7 @@ pub struct NumberPlace {
 
 // Returns whether the event is a number.
 fn is_number(event: &Step<'_>) -> bool
-    ensures { result ≡ is_some (on_leaf number_of (event_of event.now)) }
+    ensures { result ≡ is_some (on_leaf if_number (event_of event.now)) }
 {
     matches!(
         event,

@@ -29,8 +29,8 @@ use Rattle.miniserde_keys.specs.Keys.{are_digits_below, read_digits, read_unsign
 
 -- the text of each valid key is parsed as a valid key that is equal to it: one with the same code
 abbrev pub ReadsBack : {K : Type 0} → (K → Type 0) → (K → Key) → (Key → Key) → (List ℕ → Option Key) → (K → List ℕ) → Type 0
-ReadsBack {K} real content code read text =
-    (k : K) → real k → (w : K) × real w × (read (text k) ≡ Some (content w)) × (code (content w) ≡ code (content k))
+ReadsBack {K} valid content code read text =
+    (k : K) → valid k → (w : K) × valid w × (read (text k) ≡ Some (content w)) × (code (content w) ≡ code (content k))
 
 -- ---- equal keys
 

@@ -16,12 +16,12 @@ use Rattle.miniserde_keys.specs.laws.Keys.{nat-alike, nat-text, unsigned-back, i
 use Rattle.miniserde_keys.specs.laws.Keys.{bool-alike, bool-text, char_some}
 
 -- the laws of a type of keys of which `Eq` compares the whole content
-pub record KeyLaws {K : Type 0} (eq : K → K → Bool) (real : K → Type 0) (content : K → Key)
+pub record KeyLaws {K : Type 0} (eq : K → K → Bool) (valid : K → Type 0) (content : K → Key)
     (read : List ℕ → Option Key) (text : K → List ℕ) : Type 0 where
   -- keys are equal exactly if their contents are
   pub alike : (a b : K) → eq a b ≡ bytes_eq (content a) (content b)
   -- a valid key's text is read as its content
-  pub back : (k : K) → real k → read (text k) ≡ Some (content k)
+  pub back : (k : K) → valid k → read (text k) ≡ Some (content k)
   -- equal keys have the same text
   pub one_text : (a b : K) → content a ≡ content b → text a ≡ text b
 

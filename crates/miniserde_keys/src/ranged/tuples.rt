@@ -3,7 +3,7 @@
 use super::Ranged;
 
 impl<A: Ranged, B: Ranged, C: Ranged> Ranged for (A, B, C) {
-    ghost real = { λ v. A.real v.0 × B.real v.1 × C.real v.2 };
+    ghost valid = { λ v. A.valid v.0 × B.valid v.1 × C.valid v.2 };
 
     fn ranged(&self) {
         self.0.ranged();
@@ -13,7 +13,7 @@ impl<A: Ranged, B: Ranged, C: Ranged> Ranged for (A, B, C) {
 }
 
 impl<A: Ranged, B: Ranged, C: Ranged, D: Ranged> Ranged for (A, B, C, D) {
-    ghost real = { λ v. A.real v.0 × B.real v.1 × C.real v.2 × D.real v.3 };
+    ghost valid = { λ v. A.valid v.0 × B.valid v.1 × C.valid v.2 × D.valid v.3 };
 
     fn ranged(&self) {
         self.0.ranged();
@@ -24,7 +24,7 @@ impl<A: Ranged, B: Ranged, C: Ranged, D: Ranged> Ranged for (A, B, C, D) {
 }
 
 impl<A: Ranged, B: Ranged, C: Ranged, D: Ranged, E: Ranged> Ranged for (A, B, C, D, E) {
-    ghost real = { λ v. A.real v.0 × B.real v.1 × C.real v.2 × D.real v.3 × E.real v.4 };
+    ghost valid = { λ v. A.valid v.0 × B.valid v.1 × C.valid v.2 × D.valid v.3 × E.valid v.4 };
 
     fn ranged(&self) {
         self.0.ranged();
@@ -37,7 +37,7 @@ impl<A: Ranged, B: Ranged, C: Ranged, D: Ranged, E: Ranged> Ranged for (A, B, C,
 
 impl<A: Ranged, B: Ranged, C: Ranged, D: Ranged, E: Ranged, F: Ranged> Ranged
     for (A, B, C, D, E, F) {
-    ghost real = { λ v. A.real v.0 × B.real v.1 × C.real v.2 × D.real v.3 × E.real v.4 × F.real v.5 };
+    ghost valid = { λ v. A.valid v.0 × B.valid v.1 × C.valid v.2 × D.valid v.3 × E.valid v.4 × F.valid v.5 };
 
     fn ranged(&self) {
         self.0.ranged();

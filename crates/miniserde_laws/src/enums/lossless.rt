@@ -4,7 +4,7 @@ ghost use Rattle.miniserde_model.specs.Tree.{Tree, null};
 ghost use Rattle.miniserde_read.specs.types.Objects.{Name};
 ghost use Rattle.miniserde_record.specs.Structs.{are_names, is_new};
 ghost use Rattle.miniserde_enum.specs.Tagging.{Tagging, external, internal, variant_of_tree};
-ghost use Rattle.miniserde_enum.specs.Cases.{CaseReal, case_tree, unit_tree, data_tree, UnitFits, DataFits, enum_tree, tagged_tree};
+ghost use Rattle.miniserde_enum.specs.Cases.{CaseValid, case_tree, unit_tree, data_tree, UnitFits, DataFits, enum_tree, tagged_tree};
 ghost use Rattle.miniserde_enum.specs.CasesMeaning.{CasesMeaning, no_cases, unit_and, data_and};
 
 use crate::lossless::Lossless;
@@ -21,7 +21,7 @@ pub trait LosslessCases {
     ghost meaning: { CasesMeaning Self.Values };
 
     // Which values are valid.
-    ghost real: { Self.Values → Type 0 };
+    ghost valid: { Self.Values → Type 0 };
 
     // The tree of a value, by the tagging and the names of the variants.
     ghost tree: { Tagging → List Name → Self.Values → Tree };
@@ -35,10 +35,10 @@ pub trait LosslessCases {
     fn lossless()
         ensures external { fits external }
         ensures named { (tagging : Tagging) (names : List Name) (v : Self.Values) (n : Name) (o : Option Tree) → fits tagging
-            → are_names meaning.count names ≡ true → real v → is_new n names ≡ true
+            → are_names meaning.count names ≡ true → valid v → is_new n names ≡ true
             → variant_of_tree tagging (tree tagging names v) ≡ Some (n, o) → ⊥ }
         ensures same { (tagging : Tagging) (names : List Name) (v w : Self.Values) → fits tagging
-            → are_names meaning.count names ≡ true → real v → real w → tree tagging names v ≡ tree tagging names w
+            → are_names meaning.count names ≡ true → valid v → valid w → tree tagging names v ≡ tree tagging names w
             → meaning.content v ≡ meaning.content w };
 }
 
@@ -47,7 +47,7 @@ impl LosslessCases for NoCase {
 
     ghost meaning = { no_cases };
 
-    ghost real = { λ _. ⊤ };
+    ghost valid = { λ _. ⊤ };
 
     ghost tree = { λ tagging names v. null };
 
@@ -61,7 +61,7 @@ impl<R: LosslessCases> LosslessCases for UnitCase<R> {
 
     ghost meaning = { unit_and R.meaning };
 
-    ghost real = { CaseReal (λ u. ⊤) R.real };
+    ghost valid = { CaseValid (λ u. ⊤) R.valid };
 
     ghost tree = { λ tagging. case_tree (unit_tree tagging) (R.tree tagging) };
 
@@ -77,11 +77,11 @@ impl<T: Lossless, R: LosslessCases> LosslessCases for DataCase<T, R> {
 
     ghost meaning = { data_and T.means R.meaning };
 
-    ghost real = { CaseReal T.real R.real };
+    ghost valid = { CaseValid T.valid R.valid };
 
     ghost tree = { λ tagging. case_tree (data_tree tagging T.tree) (R.tree tagging) };
 
-    ghost fits = { λ tagging. DataFits T.real T.tree tagging × R.fits tagging };
+    ghost fits = { λ tagging. DataFits T.valid T.tree tagging × R.fits tagging };
 
     fn lossless() {
         T::lossless();
@@ -92,7 +92,7 @@ impl<T: Lossless, R: LosslessCases> LosslessCases for DataCase<T, R> {
 /// Does nothing. It promises that valid values of an externally tagged enum with the same tree have the same content.
 pub fn enum_lossless<E: DataEnum, C: LosslessCases<Values = E::Values>>()
     requires { length E.names ≡ C.meaning.count }
-    ensures { (v w : E) → C.real (E.values v) → C.real (E.values w)
+    ensures { (v w : E) → C.valid (E.values v) → C.valid (E.values w)
         → enum_tree E.names C.tree E.values v ≡ enum_tree E.names C.tree E.values w
         → C.meaning.content (E.values v) ≡ C.meaning.content (E.values w) }
 {
@@ -104,7 +104,7 @@ pub fn enum_lossless<E: DataEnum, C: LosslessCases<Values = E::Values>>()
 pub fn tagged_lossless<E: DataEnum + HasTag, C: LosslessCases<Values = E::Values>>()
     requires count { length E.names ≡ C.meaning.count }
     requires fits { C.fits (internal E.tag) }
-    ensures { (v w : E) → C.real (E.values v) → C.real (E.values w)
+    ensures { (v w : E) → C.valid (E.values v) → C.valid (E.values w)
         → tagged_tree E.tag E.names C.tree E.values v ≡ tagged_tree E.tag E.names C.tree E.values w
         → C.meaning.content (E.values v) ≡ C.meaning.content (E.values w) }
 {

@@ -5,7 +5,7 @@ ghost use Rattle.miniserde_read.specs.types.Objects.{Name};
 ghost use Rattle.miniserde_laws.specs.RoundTrip.{RoundTrips};
 ghost use Rattle.miniserde_record.specs.Structs.{are_names};
 ghost use Rattle.miniserde_enum.specs.Tagging.{Tagging, external, internal};
-ghost use Rattle.miniserde_enum.specs.Cases.{CaseReal, case_tree, unit_tree, data_tree, UnitFits, DataFits, enum_tree, tagged_tree};
+ghost use Rattle.miniserde_enum.specs.Cases.{CaseValid, case_tree, unit_tree, data_tree, UnitFits, DataFits, enum_tree, tagged_tree};
 ghost use Rattle.miniserde_enum.specs.CasesMeaning.{CasesMeaning, no_cases, unit_and, data_and, enum_reads, tagged_reads};
 
 use crate::round_trip::RoundTrip;
@@ -20,7 +20,7 @@ pub trait RoundTripCases {
     ghost meaning: { CasesMeaning Self.Values };
 
     // Which values are valid.
-    ghost real: { Self.Values → Type 0 };
+    ghost valid: { Self.Values → Type 0 };
 
     // The tree of a value, by the tagging and the names of the variants.
     ghost tree: { Tagging → List Name → Self.Values → Tree };
@@ -34,8 +34,8 @@ pub trait RoundTripCases {
     fn round_trips()
         ensures external { fits external }
         ensures round_trips { (tagging : Tagging) (names : List Name) (v : Self.Values) → fits tagging
-            → are_names meaning.count names ≡ true → real v
-            → RoundTrips real (tree tagging names) (meaning.reads tagging names) (tree tagging names v) };
+            → are_names meaning.count names ≡ true → valid v
+            → RoundTrips valid (tree tagging names) (meaning.reads tagging names) (tree tagging names v) };
 }
 
 impl RoundTripCases for NoCase {
@@ -43,7 +43,7 @@ impl RoundTripCases for NoCase {
 
     ghost meaning = { no_cases };
 
-    ghost real = { λ _. ⊤ };
+    ghost valid = { λ _. ⊤ };
 
     ghost tree = { λ tagging names v. null };
 
@@ -57,7 +57,7 @@ impl<R: RoundTripCases> RoundTripCases for UnitCase<R> {
 
     ghost meaning = { unit_and R.meaning };
 
-    ghost real = { CaseReal (λ u. ⊤) R.real };
+    ghost valid = { CaseValid (λ u. ⊤) R.valid };
 
     ghost tree = { λ tagging. case_tree (unit_tree tagging) (R.tree tagging) };
 
@@ -73,11 +73,11 @@ impl<T: RoundTrip, R: RoundTripCases> RoundTripCases for DataCase<T, R> {
 
     ghost meaning = { data_and T.means R.meaning };
 
-    ghost real = { CaseReal T.real R.real };
+    ghost valid = { CaseValid T.valid R.valid };
 
     ghost tree = { λ tagging. case_tree (data_tree tagging T.tree) (R.tree tagging) };
 
-    ghost fits = { λ tagging. DataFits T.real T.tree tagging × R.fits tagging };
+    ghost fits = { λ tagging. DataFits T.valid T.tree tagging × R.fits tagging };
 
     fn round_trips() {
         T::round_trips();
@@ -89,8 +89,8 @@ impl<T: RoundTrip, R: RoundTripCases> RoundTripCases for DataCase<T, R> {
 /// that each valid value that it means has that tree.
 pub fn enum_round_trips<E: DataEnum, C: RoundTripCases<Values = E::Values>>()
     requires { length E.names ≡ C.meaning.count }
-    ensures { (v : E) → C.real (E.values v)
-        → RoundTrips (λ v. C.real (E.values v)) (enum_tree E.names C.tree E.values)
+    ensures { (v : E) → C.valid (E.values v)
+        → RoundTrips (λ v. C.valid (E.values v)) (enum_tree E.names C.tree E.values)
         (enum_reads C.meaning E.names E.values) (enum_tree E.names C.tree E.values v) }
 {
     C::round_trips()
@@ -101,8 +101,8 @@ pub fn enum_round_trips<E: DataEnum, C: RoundTripCases<Values = E::Values>>()
 pub fn tagged_round_trips<E: DataEnum + HasTag, C: RoundTripCases<Values = E::Values>>()
     requires count { length E.names ≡ C.meaning.count }
     requires fits { C.fits (internal E.tag) }
-    ensures { (v : E) → C.real (E.values v)
-        → RoundTrips (λ v. C.real (E.values v)) (tagged_tree E.tag E.names C.tree E.values)
+    ensures { (v : E) → C.valid (E.values v)
+        → RoundTrips (λ v. C.valid (E.values v)) (tagged_tree E.tag E.names C.tree E.values)
         (tagged_reads C.meaning E.tag E.names E.values) (tagged_tree E.tag E.names C.tree E.values v) }
 {
     C::round_trips()

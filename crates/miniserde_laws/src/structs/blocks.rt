@@ -25,7 +25,7 @@ impl<
 
     ghost meaning = { ⟦<MarkedSlot<A, M, MarkedSlot<B, N, MarkedSlot<C, O, MarkedSlot<D, P, Z>>>> as RoundTripFields>⟧.meaning };
 
-    ghost real = { ⟦<MarkedSlot<A, M, MarkedSlot<B, N, MarkedSlot<C, O, MarkedSlot<D, P, Z>>>> as RoundTripFields>⟧.real };
+    ghost valid = { ⟦<MarkedSlot<A, M, MarkedSlot<B, N, MarkedSlot<C, O, MarkedSlot<D, P, Z>>>> as RoundTripFields>⟧.valid };
 
     ghost trees = { ⟦<MarkedSlot<A, M, MarkedSlot<B, N, MarkedSlot<C, O, MarkedSlot<D, P, Z>>>> as RoundTripFields>⟧.trees };
 
@@ -57,7 +57,7 @@ impl<
 
     ghost meaning = { ⟦<MarkedSlot<A, M, MarkedSlot<B, N, MarkedSlot<C, O, MarkedSlot<D, P, Z>>>> as LosslessFields>⟧.meaning };
 
-    ghost real = { ⟦<MarkedSlot<A, M, MarkedSlot<B, N, MarkedSlot<C, O, MarkedSlot<D, P, Z>>>> as LosslessFields>⟧.real };
+    ghost valid = { ⟦<MarkedSlot<A, M, MarkedSlot<B, N, MarkedSlot<C, O, MarkedSlot<D, P, Z>>>> as LosslessFields>⟧.valid };
 
     ghost trees = { ⟦<MarkedSlot<A, M, MarkedSlot<B, N, MarkedSlot<C, O, MarkedSlot<D, P, Z>>>> as LosslessFields>⟧.trees };
 
@@ -76,7 +76,7 @@ impl<A: RoundTrip, B: RoundTrip, C: RoundTrip, D: RoundTrip, Z: RoundTripFields>
 
     ghost meaning = { ⟦<Slot<A, Slot<B, Slot<C, Slot<D, Z>>>> as RoundTripFields>⟧.meaning };
 
-    ghost real = { ⟦<Slot<A, Slot<B, Slot<C, Slot<D, Z>>>> as RoundTripFields>⟧.real };
+    ghost valid = { ⟦<Slot<A, Slot<B, Slot<C, Slot<D, Z>>>> as RoundTripFields>⟧.valid };
 
     ghost trees = { ⟦<Slot<A, Slot<B, Slot<C, Slot<D, Z>>>> as RoundTripFields>⟧.trees };
 
@@ -91,7 +91,7 @@ impl<A: Lossless, B: Lossless, C: Lossless, D: Lossless, Z: LosslessFields> Loss
 
     ghost meaning = { ⟦<Slot<A, Slot<B, Slot<C, Slot<D, Z>>>> as LosslessFields>⟧.meaning };
 
-    ghost real = { ⟦<Slot<A, Slot<B, Slot<C, Slot<D, Z>>>> as LosslessFields>⟧.real };
+    ghost valid = { ⟦<Slot<A, Slot<B, Slot<C, Slot<D, Z>>>> as LosslessFields>⟧.valid };
 
     ghost trees = { ⟦<Slot<A, Slot<B, Slot<C, Slot<D, Z>>>> as LosslessFields>⟧.trees };
 

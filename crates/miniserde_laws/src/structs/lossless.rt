@@ -18,7 +18,7 @@ pub trait LosslessFields {
     ghost meaning: { FieldsMeaning Self.Values };
 
     // Which values are valid.
-    ghost real: { Self.Values → Type 0 };
+    ghost valid: { Self.Values → Type 0 };
 
     // The tree of each value, in their order, or `None` for a value that is not written.
     ghost trees: { Self.Values → List (Option Tree) };
@@ -27,7 +27,7 @@ pub trait LosslessFields {
     /// have the same content.
     fn lossless()
         ensures each { (v : Self.Values) → length (trees v) ≡ meaning.count }
-        ensures same { (v w : Self.Values) → real v → real w → trees v ≡ trees w
+        ensures same { (v w : Self.Values) → valid v → valid w → trees v ≡ trees w
             → meaning.content v ≡ meaning.content w };
 }
 
@@ -36,7 +36,7 @@ impl LosslessFields for NoSlot {
 
     ghost meaning = { no_fields };
 
-    ghost real = { λ _. ⊤ };
+    ghost valid = { λ _. ⊤ };
 
     ghost trees = { λ _. [] };
 
@@ -48,7 +48,7 @@ impl<T: Lossless, M: Mark<T>, R: LosslessFields> LosslessFields for MarkedSlot<T
 
     ghost meaning = { field_and M.once M.given T.means T.absent R.meaning };
 
-    ghost real = { λ v. T.real v.0 × R.real v.1 };
+    ghost valid = { λ v. T.valid v.0 × R.valid v.1 };
 
     ghost trees = { λ v. Some (T.tree v.0) ∷ R.trees v.1 };
 
@@ -63,7 +63,7 @@ impl LosslessFields for Closed {
 
     ghost meaning = { closed_end };
 
-    ghost real = { λ _. ⊤ };
+    ghost valid = { λ _. ⊤ };
 
     ghost trees = { λ _. [] };
 
@@ -73,7 +73,7 @@ impl LosslessFields for Closed {
 /// Does nothing. It promises that two valid structs with the same tree have the same content.
 pub fn record_lossless<S: Record, F: LosslessFields<Values = S::Values>>()
     requires { length S.names ≡ F.meaning.count }
-    ensures { (v w : S) → F.real (S.values v) → F.real (S.values w)
+    ensures { (v w : S) → F.valid (S.values v) → F.valid (S.values w)
         → record_tree S.names F.trees S.values v ≡ record_tree S.names F.trees S.values w
         → F.meaning.content (S.values v) ≡ F.meaning.content (S.values w) }
 {

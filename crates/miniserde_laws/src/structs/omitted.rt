@@ -16,7 +16,7 @@ impl<T: RoundTrip + NeverNull, M: Repeats, R: RoundTripFields> RoundTripFields
 
     ghost meaning = { field_and M.once None ⟦<Option<T> as FromJson>⟧.means ⟦<Option<T> as FromJson>⟧.absent R.meaning };
 
-    ghost real = { λ v. ⟦<Option<T> as Ranged>⟧.real v.0 × R.real v.1 };
+    ghost valid = { λ v. ⟦<Option<T> as Ranged>⟧.valid v.0 × R.valid v.1 };
 
     ghost trees = { λ v. option_map T.tree v.0 ∷ R.trees v.1 };
 
@@ -32,7 +32,7 @@ impl<T: Lossless + NeverNull, M: Repeats, R: LosslessFields> LosslessFields for 
 
     ghost meaning = { field_and M.once None ⟦<Option<T> as FromJson>⟧.means ⟦<Option<T> as FromJson>⟧.absent R.meaning };
 
-    ghost real = { λ v. ⟦<Option<T> as Ranged>⟧.real v.0 × R.real v.1 };
+    ghost valid = { λ v. ⟦<Option<T> as Ranged>⟧.valid v.0 × R.valid v.1 };
 
     ghost trees = { λ v. option_map T.tree v.0 ∷ R.trees v.1 };
 

@@ -18,7 +18,7 @@ pub trait RoundTripFields {
     ghost meaning: { FieldsMeaning Self.Values };
 
     // Which values are valid.
-    ghost real: { Self.Values → Type 0 };
+    ghost valid: { Self.Values → Type 0 };
 
     // The tree of each value, in their order, or `None` for a value that is not written.
     ghost trees: { Self.Values → List (Option Tree) };
@@ -26,8 +26,8 @@ pub trait RoundTripFields {
     /// Does nothing. It promises that the trees of valid values, as members with the names of the fields, mean valid
     /// values, and that all valid values that they mean have the same trees.
     fn round_trips()
-        ensures { (names : List Name) (v : Self.Values) → are_names meaning.count names ≡ true → real v
-            → FieldsRoundTrip real trees (meaning.reads []) names (trees v) };
+        ensures { (names : List Name) (v : Self.Values) → are_names meaning.count names ≡ true → valid v
+            → FieldsRoundTrip valid trees (meaning.reads []) names (trees v) };
 }
 
 impl RoundTripFields for NoSlot {
@@ -35,7 +35,7 @@ impl RoundTripFields for NoSlot {
 
     ghost meaning = { no_fields };
 
-    ghost real = { λ _. ⊤ };
+    ghost valid = { λ _. ⊤ };
 
     ghost trees = { λ _. [] };
 
@@ -47,7 +47,7 @@ impl<T: RoundTrip, M: Mark<T>, R: RoundTripFields> RoundTripFields for MarkedSlo
 
     ghost meaning = { field_and M.once M.given T.means T.absent R.meaning };
 
-    ghost real = { λ v. T.real v.0 × R.real v.1 };
+    ghost valid = { λ v. T.valid v.0 × R.valid v.1 };
 
     ghost trees = { λ v. Some (T.tree v.0) ∷ R.trees v.1 };
 
@@ -62,7 +62,7 @@ impl RoundTripFields for Closed {
 
     ghost meaning = { closed_end };
 
-    ghost real = { λ _. ⊤ };
+    ghost valid = { λ _. ⊤ };
 
     ghost trees = { λ _. [] };
 
@@ -73,8 +73,8 @@ impl RoundTripFields for Closed {
 /// means has that tree.
 pub fn record_round_trips<S: Record, F: RoundTripFields<Values = S::Values>>()
     requires { length S.names ≡ F.meaning.count }
-    ensures { (v : S) → F.real (S.values v)
-        → RoundTrips (λ v. F.real (S.values v)) (record_tree S.names F.trees S.values)
+    ensures { (v : S) → F.valid (S.values v)
+        → RoundTrips (λ v. F.valid (S.values v)) (record_tree S.names F.trees S.values)
         (struct_meaning F.meaning S.names S.values).reads (record_tree S.names F.trees S.values v) }
 {
     F::round_trips()
@@ -84,8 +84,8 @@ pub fn record_round_trips<S: Record, F: RoundTripFields<Values = S::Values>>()
 /// back as a value with the same tree.
 pub fn aliased_round_trips<S: HasAliases, F: RoundTripFields<Values = S::Values>>()
     requires { length S.names ≡ F.meaning.count }
-    ensures { (v : S) → F.real (S.values v)
-        → RoundTrips (λ v. F.real (S.values v)) (record_tree S.names F.trees S.values)
+    ensures { (v : S) → F.valid (S.values v)
+        → RoundTrips (λ v. F.valid (S.values v)) (record_tree S.names F.trees S.values)
         (struct_meaning (with_aliases S.aliases F.meaning) S.names S.values).reads (record_tree S.names F.trees S.values v) }
 {
     record_round_trips::<S, F>()

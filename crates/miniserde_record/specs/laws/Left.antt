@@ -8,7 +8,7 @@ use Rattle.std.proofs.lemmas.Slice.Eq.{bytes_eq-Decides}
 use Rattle.miniserde_model.specs.Tree.{Tree, Members, no_members, member}
 use Rattle.miniserde_model.specs.Normal.{or_else, last_of}
 use Rattle.miniserde_read.specs.types.Objects.{Name}
-use Rattle.miniserde_record.specs.Fields.{other_members, AllNamed, LastMemberReads, count_named, OnceAnd, FieldReads}
+use Rattle.miniserde_record.specs.Fields.{other_members, AllOfName, LastMemberReads, count_named, OnceAnd, FieldReads}
 use Rattle.miniserde_record.specs.Marks.{is_among}
 
 module _ (n k : Name) (differ : bytes_eq n k ≡ false) where
@@ -25,12 +25,12 @@ module _ (n k : Name) (differ : bytes_eq n k ≡ false) where
         | false ↦ λ e. ap (λ o. or_else o (cond (bytes_eq j k) (Some t) None)) (last-apart ms)
       ] refl
 
-  all-apart : {C : Type 0} (of : Tree → Option C) (ms : Members) → AllNamed of k (other_members n ms) ↔ AllNamed of k ms
+  all-apart : {C : Type 0} (of : Tree → Option C) (ms : Members) → AllOfName of k (other_members n ms) ↔ AllOfName of k ms
   all-apart of no_members = (λ h. h, λ h. h)
   all-apart of (member j t ms) = let r = all-apart of ms in
       elim (bytes_eq j n) as (λ b. bytes_eq j n ≡ b
-      → AllNamed of k (cond b (other_members n ms) (member j t (other_members n ms)))
-      ↔ AllNamed of k (member j t ms)) [
+      → AllOfName of k (cond b (other_members n ms) (member j t (other_members n ms)))
+      ↔ AllOfName of k (member j t ms)) [
         | true ↦ λ e. (λ h. (λ g. absurd (true≢false (sym g ∙ one_name j e)), r.0 h), λ h. r.1 h.1)
         | false ↦ λ e. (λ h. (h.0, r.0 h.1), λ h. (h.0, r.1 h.1))
       ] refl
@@ -149,7 +149,7 @@ lone : {C : Type 0} (missing : Type 0) (Is : Tree → Type 0) (of : Tree → Opt
 lone missing Is of k no_members z = (λ h. h.1, λ h. (tt, h))
 lone missing Is of k (member j t ms) z =
     elim (bytes_eq j k) as (λ a. cond a (suc (count_named k ms)) (count_named k ms) ≡ 0
-    → ((a ≡ true → IsSome (of t)) × AllNamed of k ms) × MatchOption (or_else (last_of k ms) (cond a (Some t) None)) missing Is
+    → ((a ≡ true → IsSome (of t)) × AllOfName of k ms) × MatchOption (or_else (last_of k ms) (cond a (Some t) None)) missing Is
     ↔ missing) [
       | true ↦ λ z. absurd (cc)
       | false ↦ λ z. let r = lone missing Is of k ms z in

@@ -13,13 +13,13 @@ use Rattle.miniserde_record.specs.Marks.{has_no_members, is_among, all_among}
 
 -- ---- closed
 
-all-named-more : (n : Name) (ns : List Name) (ms : Members) → all_among ns (other_members n ms) ≡ all_among (n ∷ ns) ms
-all-named-more n ns no_members = refl
-all-named-more n ns (member k t ms) =
+all-of-name-more : (n : Name) (ns : List Name) (ms : Members) → all_among ns (other_members n ms) ≡ all_among (n ∷ ns) ms
+all-of-name-more n ns no_members = refl
+all-of-name-more n ns (member k t ms) =
     elim (bytes_eq k n) as (λ b. all_among ns (cond b (other_members n ms) (member k t (other_members n ms)))
     ≡ ((b || is_among ns k) && all_among (n ∷ ns) ms)) [
-      | true ↦ all-named-more n ns ms
-      | false ↦ ap (λ b. is_among ns k && b) (all-named-more n ns ms)
+      | true ↦ all-of-name-more n ns ms
+      | false ↦ ap (λ b. is_among ns k && b) (all-of-name-more n ns ms)
     ]
 
 none-named : (ms : Members) → has_no_members ms ≡ all_among [] ms
@@ -29,7 +29,7 @@ none-named (member k t ms) = refl
 -- `closed`: no member is left after the last field exactly if each member's name is a field's
 pub closed-named : (ns : List Name) (ms : Members) → has_no_members (left ns ms) ≡ all_among ns ms
 closed-named [] ms = none-named ms
-closed-named (n ∷ ns) ms = closed-named ns (other_members n ms) ∙ all-named-more n ns ms
+closed-named (n ∷ ns) ms = closed-named ns (other_members n ms) ∙ all-of-name-more n ns ms
 
 -- ---- default
 

@@ -82,7 +82,7 @@ impl<
         MarkedSlot<B, N, MarkedSlot<C, O, MarkedSlot<D, P, Z>>>,
     > as WrittenFields>::Values;
 
-    ghost real = { ⟦<MarkedSlot<A, M, MarkedSlot<B, N, MarkedSlot<C, O, MarkedSlot<D, P, Z>>>> as WrittenFields>⟧.real };
+    ghost valid = { ⟦<MarkedSlot<A, M, MarkedSlot<B, N, MarkedSlot<C, O, MarkedSlot<D, P, Z>>>> as WrittenFields>⟧.valid };
 
     ghost trees = { ⟦<MarkedSlot<A, M, MarkedSlot<B, N, MarkedSlot<C, O, MarkedSlot<D, P, Z>>>> as WrittenFields>⟧.trees };
 }
@@ -135,7 +135,7 @@ impl<
 > WrittenFields for FourSlot<A, B, C, D, Z> {
     type Values = <Slot<A, Slot<B, Slot<C, Slot<D, Z>>>> as WrittenFields>::Values;
 
-    ghost real = { ⟦<Slot<A, Slot<B, Slot<C, Slot<D, Z>>>> as WrittenFields>⟧.real };
+    ghost valid = { ⟦<Slot<A, Slot<B, Slot<C, Slot<D, Z>>>> as WrittenFields>⟧.valid };
 
     ghost trees = { ⟦<Slot<A, Slot<B, Slot<C, Slot<D, Z>>>> as WrittenFields>⟧.trees };
 }

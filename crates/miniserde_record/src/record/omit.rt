@@ -78,7 +78,7 @@ impl<T: FromJson, M: Repeats, R: Slots> Slots for OmitSlot<T, M, R> {
 impl<T: Ranged + Serialize, M, R: WrittenFields> WrittenFields for OmitSlot<T, M, R> {
     type Values = Parts<Option<T>, R::Values>;
 
-    ghost real = { λ v. ⟦<Option<T> as Ranged>⟧.real v.0 × R.real v.1 };
+    ghost valid = { λ v. ⟦<Option<T> as Ranged>⟧.valid v.0 × R.valid v.1 };
 
     ghost trees = { λ v. option_map T.tree v.0 ∷ R.trees v.1 };
 }

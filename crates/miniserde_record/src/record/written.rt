@@ -13,7 +13,7 @@ pub trait WrittenFields {
     type Values;
 
     // Which values are valid.
-    ghost real: { Self.Values → Type 0 };
+    ghost valid: { Self.Values → Type 0 };
 
     // The tree of each value, in their order, or `None` for a value that is not written.
     ghost trees: { Self.Values → List (Option Tree) };
@@ -22,7 +22,7 @@ pub trait WrittenFields {
 impl WrittenFields for NoSlot {
     type Values = ();
 
-    ghost real = { λ _. ⊤ };
+    ghost valid = { λ _. ⊤ };
 
     ghost trees = { λ _. [] };
 }
@@ -30,7 +30,7 @@ impl WrittenFields for NoSlot {
 impl<T: Ranged + Serialize, M, R: WrittenFields> WrittenFields for MarkedSlot<T, M, R> {
     type Values = Parts<T, R::Values>;
 
-    ghost real = { λ v. T.real v.0 × R.real v.1 };
+    ghost valid = { λ v. T.valid v.0 × R.valid v.1 };
 
     ghost trees = { λ v. Some (T.tree v.0) ∷ R.trees v.1 };
 }

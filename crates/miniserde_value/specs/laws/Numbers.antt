@@ -4,9 +4,9 @@ use Rattle.std.specs.Prelude.{◌↔◌}
 use Rattle.miniserde_model.specs.Tree.{Tree, null, truth, nonneg, neg, num, str, list, members}
 use Rattle.miniserde_value.specs.declared.json.number.Number.{Number}
 use Rattle.miniserde_value.specs.declared.json.number.Number.TheVariants.{U64, I64, Text}
-use Rattle.miniserde_value.specs.Numbers.{number_leaf, number_of, ReadsNumber}
+use Rattle.miniserde_value.specs.Numbers.{number_leaf, if_number, ReadsNumber}
 
-number_reads : (t : Tree) (v : Number) → number_of t ≡ Some (number_leaf v) → ReadsNumber t v
+number_reads : (t : Tree) (v : Number) → if_number t ≡ Some (number_leaf v) → ReadsNumber t v
 number_reads null v e = absurd (cc)
 number_reads (truth b) v e = absurd (cc)
 number_reads (nonneg n) (U64 m) e = let same : m ≡ n = cc in ap U64 same
@@ -22,7 +22,7 @@ number_reads (str s) v e = absurd (cc)
 number_reads (list ts) v e = absurd (cc)
 number_reads (members ms) v e = absurd (cc)
 
-number_meaning : (t : Tree) (v : Number) → ReadsNumber t v → number_of t ≡ Some (number_leaf v)
+number_meaning : (t : Tree) (v : Number) → ReadsNumber t v → if_number t ≡ Some (number_leaf v)
 number_meaning null v e = absurd e
 number_meaning (truth b) v e = absurd e
 number_meaning (nonneg n) v e = ap (λ (x : Tree). Some x) (ap number_leaf (sym e))
@@ -32,6 +32,6 @@ number_meaning (str s) v e = absurd e
 number_meaning (list ts) v e = absurd e
 number_meaning (members ms) v e = absurd e
 
--- a tree means the number v exactly if `number_of` returns the leaf of v for it
-pub number-given : (t : Tree) (v : Number) → ReadsNumber t v ↔ (number_of t ≡ Some (number_leaf v))
+-- a tree means the number v exactly if `if_number` returns the leaf of v for it
+pub number-given : (t : Tree) (v : Number) → ReadsNumber t v ↔ (if_number t ≡ Some (number_leaf v))
 number-given t v = (number_meaning t v, number_reads t v)

@@ -7,7 +7,7 @@ use Rattle.miniserde_model.specs.Normal.{put as put_member}
 use Rattle.miniserde_model.specs.Step.{Step, finish, events, child_events, member_events}
 use Rattle.miniserde_value.specs.Retained.{retained_tree, retained_children}
 use Rattle.miniserde_value.specs.Hole.{Hole, outside, in_list, in_members, put, outcome}
-use Rattle.miniserde_value.specs.Kinds.{only_list, only_members}
+use Rattle.miniserde_value.specs.OnlyContainers.{only_list, only_members}
 use Rattle.miniserde_value.specs.laws.Listed.{listed, trees_listed, put_retained, puts_retained}
 
 mutual

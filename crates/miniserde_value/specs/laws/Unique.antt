@@ -164,9 +164,9 @@ pub once-whole : (t : Tree) → outcome true true (outside []) (events t) ≡ re
 once-whole t = ap (outcome true true (outside [])) (sym (append-nil (events t))) ∙ once_events (outside []) t []
 
 -- the events of a tree give what `retained_if once` returns for it
-pub gives-kept : (once : Bool) (t : Tree) → outcome once true (outside []) (events t) ≡ retained_if once t
-gives-kept true t = once-whole t
-gives-kept false t = outcome-whole t
+pub gives-retained : (once : Bool) (t : Tree) → outcome once true (outside []) (events t) ≡ retained_if once t
+gives-retained true t = once-whole t
+gives-retained false t = outcome-whole t
 
 -- the names of t are distinct and u is its retained tree, exactly if `retained_if` returns u
 pub once-agrees : (t u : Tree) → ((names_distinct t ≡ true) × (u ≡ retained_tree t)) ↔ (retained_if true t ≡ Some u)

@@ -5,8 +5,8 @@ use Rattle.miniserde_model.specs.Step.{Step}
 use Rattle.miniserde_model.specs.declared.kind.Kind.{Kind}
 use Rattle.miniserde_model.specs.declared.kind.Kind.TheVariants.{Seq, Map}
 use Rattle.miniserde_model.specs.private.Reading.{Moment, due, first, after}
-use Rattle.miniserde_text.specs.private.Runs.{Runs, Consumes}
-use Rattle.miniserde_text.specs.private.Moving.{first_or_after}
+use Rattle.miniserde_text.specs.private.EventRuns.{Runs, Consumes}
+use Rattle.miniserde_text.specs.private.Moments.{first_or_after}
 use Rattle.miniserde_value.specs.Hole.{Hole, outside, in_list, in_members, after_close, outcome}
 
 -- the kinds of the open containers, innermost first

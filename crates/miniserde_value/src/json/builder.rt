@@ -4,7 +4,7 @@ ghost use Rattle.std.specs.Prelude.{drop, take, length, string_bytes, is_some};
 ghost use Rattle.miniserde_model.specs.declared.error.Error.{Error};
 ghost use Rattle.miniserde_model.specs.Tree.{no_members};
 ghost use Rattle.miniserde_model.specs.Normal.{last_of};
-ghost use Rattle.miniserde_text.specs.private.Moving.{opened_kind};
+ghost use Rattle.miniserde_text.specs.private.Moments.{opened_kind};
 ghost use Rattle.miniserde_read.specs.Events.{event_of, EventInRange, leaf_of};
 ghost use Rattle.miniserde_value.specs.Hole.{Hole, outside, in_list, in_members, put, with_name, after_close, complete_tree, has_member, after_begin};
 ghost use Rattle.miniserde_value.specs.Values.{content_of};

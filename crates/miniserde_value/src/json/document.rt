@@ -45,7 +45,7 @@ impl Serialize for Document {
 
 impl Ranged for Document {
     // Every document is valid.
-    ghost real = { λ _. ⊤ };
+    ghost valid = { λ _. ⊤ };
 
     fn ranged(&self) {}
 }

@@ -1,5 +1,5 @@
 //! Reads `Number`, `Value`, `Array`, `Object` and `Unique` from a text, at any depth and without recursion. `Ranged`
-//! asks nothing of them: `real` holds of each of their values.
+//! asks nothing of them: `valid` holds of each of their values.
 //! An `Event` is a token that begins a value, a `Step` an event of a value.
 ghost use Rattle.std.specs.Prelude.{⊤};
 
@@ -122,31 +122,31 @@ impl FromJson for Unique {
 }
 
 impl Ranged for Number {
-    ghost real = { λ _. ⊤ };
+    ghost valid = { λ _. ⊤ };
 
     fn ranged(&self) {}
 }
 
 impl Ranged for Value {
-    ghost real = { λ _. ⊤ };
+    ghost valid = { λ _. ⊤ };
 
     fn ranged(&self) {}
 }
 
 impl Ranged for Array {
-    ghost real = { λ _. ⊤ };
+    ghost valid = { λ _. ⊤ };
 
     fn ranged(&self) {}
 }
 
 impl Ranged for Object {
-    ghost real = { λ _. ⊤ };
+    ghost valid = { λ _. ⊤ };
 
     fn ranged(&self) {}
 }
 
 impl Ranged for Unique {
-    ghost real = { λ _. ⊤ };
+    ghost valid = { λ _. ⊤ };
 
     fn ranged(&self) {}
 }

@@ -34,7 +34,7 @@ pub enum Value {
 impl Value {
     ghost use Rattle.std.specs.Prelude.{Some, option_map};
     ghost use Rattle.miniserde_value.specs.Values.{content_of, array_content, object_content};
-    ghost use Rattle.miniserde_value.specs.Kinds.{only_list, only_members};
+    ghost use Rattle.miniserde_value.specs.OnlyContainers.{only_list, only_members};
 
     /// Returns the array, or drops the value and returns `None` if it is no array. Allocates nothing.
     pub fn into_array(self) -> Option<Array>

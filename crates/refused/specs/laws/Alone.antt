@@ -10,7 +10,7 @@ use Rattle.miniserde.specs.Options.{option_of}
 use Rattle.miniserde.specs.Fields.{content_pair, last_content}
 use Rattle.refused.specs.Agree.{AgreeAt, Pairwise, trees_named}
 use Rattle.refused.specs.Ways.{DependsAt}
-use Rattle.refused.specs.Wrong.{alone, first_name, name_or_empty}
+use Rattle.refused.specs.Wrong.{alone, first_alone, name_or_empty}
 
 pub none-some : {C : Type 0} (o : Option C) → o ≡ None → IsSome o → ⊥
 none-some o n s = true≢false (sym s ∙ ap is_some n)
@@ -94,13 +94,13 @@ module _ {C : Type 0} (once : Bool) (absent : Option C) (of : Tree → Option C)
         | false ↦ last-fits n d ms
       ] h
 
-  alone-fits : (names : List Name) (ms : Members) → IsSome (alone once absent of (first_name names) (members ms))
+  alone-fits : (names : List Name) (ms : Members) → IsSome (alone once absent of (first_alone names) (members ms))
       → Fits once (λ t. IsSome (of t)) (IsSome absent) false (trees_of names ms)
   alone-fits [] ms h = pair-some absent h
   alone-fits (n ∷ ns) ms h = fits-last n None ms h
 
   fits-alone : (names : List Name) (ms : Members) → Fits once (λ t. IsSome (of t)) (IsSome absent) false (trees_of names ms)
-      → IsSome (alone once absent of (first_name names) (members ms))
+      → IsSome (alone once absent of (first_alone names) (members ms))
   fits-alone [] ms h = some-pair absent h
   fits-alone (n ∷ ns) ms h = last-fits n None ms h
 
@@ -114,8 +114,8 @@ module _ {P Q R : Tree → Type 0} {A B D : Type 0} (once twice : Bool) (pass : 
 pub alone-both : {C D E : Type 0} (once twice : Bool) (absent : Option C) (lacking : Option D) (missing : Option E)
     (f : Tree → Option C) (g : Tree → Option D) (h : Tree → Option E) (names : List Name)
     → ((t : Tree) → IsSome (f t) → IsSome (g t) → IsSome (h t)) → (IsSome absent → IsSome lacking → IsSome missing) → (t : Tree)
-    → IsSome (alone once absent f (first_name names) t) → IsSome (alone twice lacking g (first_name names) t)
-    → IsSome (alone false missing h (first_name names) t)
+    → IsSome (alone once absent f (first_alone names) t) → IsSome (alone twice lacking g (first_alone names) t)
+    → IsSome (alone false missing h (first_alone names) t)
 alone-both once twice absent lacking missing f g h names pass lack (members ms) p q =
     fits-alone false missing h names ms (fits-both once twice pass lack false (trees_of names ms)
     (alone-fits once absent f names ms p) (alone-fits twice lacking g names ms q))
@@ -137,11 +137,11 @@ of-first (n ∷ ns) rest ms ls p = p
 
 -- what a field gives depends on the members of its name, as what it gives of their trees depends on them
 pub alone-depends : {C : Type 0} (once : Bool) (absent : Option C) (of : Tree → Option C) (names rest : List Name) → DependsAt of rest
-    → DependsAt (alone once absent of (first_name names)) (name_or_empty names ∷ rest)
-alone-depends once absent of names rest d t u (inl e) s = subst (λ t. IsSome (alone once absent of (first_name names) t)) e s
+    → DependsAt (alone once absent of (first_alone names)) (name_or_empty names ∷ rest)
+alone-depends once absent of names rest d t u (inl e) s = subst (λ t. IsSome (alone once absent of (first_alone names) t)) e s
 alone-depends once absent of names rest d t u (inr (ms, ls, e, f, p)) s =
-    let o = subst (λ t. IsSome (alone once absent of (first_name names) t)) e s in
-    subst (λ t. IsSome (alone once absent of (first_name names) t)) (sym f)
+    let o = subst (λ t. IsSome (alone once absent of (first_alone names) t)) e s in
+    subst (λ t. IsSome (alone once absent of (first_alone names) t)) (sym f)
     (fits-alone once absent of names ls (fits-pairwise (IsSome absent) once d false (trees_of names ms) (trees_of names ls)
     (of-first names rest ms ls p) (alone-fits once absent of names ms o)))
 

@@ -6,8 +6,8 @@ use Rattle.std.proofs.lemmas.Result.{err_from_is_err_and}
 use Rattle.miniserde_model.specs.Normal.{norm}
 use Rattle.miniserde_model.proofs.Normal.{norm_twice}
 use Rattle.miniserde_model.proofs.Unique.{one_tree}
-use Rattle.miniserde_canonical.proofs.IsCanonical.{canonical_text, canonical_spelled, canonical_told}
-use Rattle.miniserde_canonical.proofs.IsCanonical.{canonical_least, canonical_again, its_own}
+use Rattle.miniserde_canonical.proofs.IsCanonical.{canonical_text, canonical_spelled, canonical_decides}
+use Rattle.miniserde_canonical.proofs.IsCanonical.{canonical_least, canonical_of_canonical, canonical_spells_norm}
 use Rattle.miniserde_canonical.proofs.canonicalize.canonical.Goals as goal
 
 pub returns-in_err-text-clause-invalid : goal.returns-in_err-text-clause-invalid
@@ -23,7 +23,7 @@ returns-in_err-text-clause-idempotent c = λ b t h e.
     let w = err_from_is_err_and c.from_residual.result c.from_residual.ensures.1 in (
       subst (λ r. IfOk r (λ s. string_bytes s ≡ c.args.j.now)) (sym w.1) tt,
       λ i. returns-in_err-text-clause-invalid
-          c i (norm t) (its_own c.args.j.now b t h e),
+          c i (norm t) (canonical_spells_norm c.args.j.now b t h e),
     )
 
 pub returns-clause-ok : goal.returns-clause-ok
@@ -39,7 +39,7 @@ pub returns-clause-normal : goal.returns-clause-normal
 returns-clause-normal c = λ t p. norm_twice t
 
 pub returns-clause-tells : goal.returns-clause-tells
-returns-clause-tells c = canonical_told c.args.j.now _ (returns-clause-ok c)
+returns-clause-tells c = canonical_decides c.args.j.now _ (returns-clause-ok c)
 
 pub returns-clause-shortest : goal.returns-clause-shortest
 returns-clause-shortest c = canonical_least c.args.j.now _ (returns-clause-ok c)
@@ -48,4 +48,4 @@ pub returns-clause-one : goal.returns-clause-one
 returns-clause-one c = one_tree c.args.j.now
 
 pub returns-clause-idempotent : goal.returns-clause-idempotent
-returns-clause-idempotent c = λ b t h e. (canonical_again c.args.j.now _ b (returns-clause-ok c) t h e, λ i. absurd (cc))
+returns-clause-idempotent c = λ b t h e. (canonical_of_canonical c.args.j.now _ b (returns-clause-ok c) t h e, λ i. absurd (cc))

@@ -9,8 +9,8 @@ use Rattle.miniserde_model.specs.Distinct.{names_distinct}
 use Rattle.miniserde_model.proofs.Distinct.{norm_distinct, distinct_size}
 use Rattle.miniserde_model.proofs.Normal.{norm_twice}
 use Rattle.miniserde_model.proofs.Unique.{one_tree}
-use Rattle.miniserde_canonical.proofs.IsCanonical.{canonical_text, canonical_spelled, canonical_told}
-use Rattle.miniserde_canonical.proofs.IsCanonical.{canonical_least, canonical_again, its_own}
+use Rattle.miniserde_canonical.proofs.IsCanonical.{canonical_text, canonical_spelled, canonical_decides}
+use Rattle.miniserde_canonical.proofs.IsCanonical.{canonical_least, canonical_of_canonical, canonical_spells_norm}
 use Rattle.miniserde_canonical.proofs.canonicalize.canonical_unique.Goals as goal
 
 -- ---- no text
@@ -28,7 +28,7 @@ returns-in_err-text-clause-idempotent c = λ b t h e.
     let w = err_from_is_err_and c.from_residual.result c.from_residual.ensures.1 in (
       subst (λ r. IfOk r (λ s. string_bytes s ≡ c.args.j.now)) (sym w.1) tt,
       λ i. returns-in_err-text-clause-invalid
-          c i (norm t) (its_own c.args.j.now b t h e) (norm_distinct t),
+          c i (norm t) (canonical_spells_norm c.args.j.now b t h e) (norm_distinct t),
     )
 
 -- ---- a text without duplicate names
@@ -43,7 +43,7 @@ pub returns-then-is_distinct-clause-normal : goal.returns-then-is_distinct-claus
 returns-then-is_distinct-clause-normal c = λ t p. norm_twice t
 
 pub returns-then-is_distinct-clause-tells : goal.returns-then-is_distinct-clause-tells
-returns-then-is_distinct-clause-tells c = canonical_told c.args.j.now _ (let r = c.in_ok-text.ensures.ok in (r.0, r.1, r.2))
+returns-then-is_distinct-clause-tells c = canonical_decides c.args.j.now _ (let r = c.in_ok-text.ensures.ok in (r.0, r.1, r.2))
 
 pub returns-then-is_distinct-clause-shortest : goal.returns-then-is_distinct-clause-shortest
 returns-then-is_distinct-clause-shortest c = canonical_least c.args.j.now _ (let r = c.in_ok-text.ensures.ok in (r.0, r.1, r.2))
@@ -62,7 +62,7 @@ returns-then-is_distinct-clause-one c = one_tree c.args.j.now
 pub returns-then-is_distinct-clause-idempotent : goal.returns-then-is_distinct-clause-idempotent
 returns-then-is_distinct-clause-idempotent c = λ b t h e.
     let r = c.in_ok-text.ensures.ok in
-    (canonical_again c.args.j.now _ b (r.0, r.1, r.2) t h e, λ i. absurd (cc))
+    (canonical_of_canonical c.args.j.now _ b (r.0, r.1, r.2) t h e, λ i. absurd (cc))
 
 -- ---- a duplicate
 
@@ -76,4 +76,4 @@ returns-else-is_distinct-clause-one c = one_tree c.args.j.now
 
 pub returns-else-is_distinct-clause-idempotent : goal.returns-else-is_distinct-clause-idempotent
 returns-else-is_distinct-clause-idempotent c = λ b t h e.
-    (tt, λ i. returns-else-is_distinct-clause-invalid c i (norm t) (its_own c.args.j.now b t h e) (norm_distinct t))
+    (tt, λ i. returns-else-is_distinct-clause-invalid c i (norm t) (canonical_spells_norm c.args.j.now b t h e) (norm_distinct t))

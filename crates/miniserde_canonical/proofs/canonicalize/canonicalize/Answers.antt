@@ -11,11 +11,11 @@ use Rattle.miniserde_model.proofs.Utf8.{json_utf8}
 use Rattle.miniserde_model.proofs.Written.{written}
 use Rattle.miniserde_canonical.specs.CanonicalToken.{tokens}
 use Rattle.miniserde_canonical.specs.declared.draft.Draft.{Draft}
-use Rattle.miniserde_canonical.specs.private.Arranging.{State, TokenSteps, start}
+use Rattle.miniserde_canonical.specs.private.States.{State, TokenSteps, start}
 use Rattle.miniserde_canonical.specs.private.Drafts.{Holding}
-use Rattle.miniserde_canonical.specs.private.Spreads.{Holds}
-use Rattle.miniserde_canonical.proofs.Growing.{steps_make}
-use Rattle.miniserde_canonical.proofs.Drafting.{holds_whole}
+use Rattle.miniserde_canonical.specs.private.SplicedTexts.{Holds}
+use Rattle.miniserde_canonical.proofs.TreeRuns.{steps_make}
+use Rattle.miniserde_canonical.proofs.DraftSteps.{holds_whole}
 use Rattle.miniserde_canonical.proofs.canonicalize.canonicalize.Goals as goal
 
 held : (d : Draft) (t : Tree) (s : State) → TokenSteps (tokens t) start s → Holding d d.out.bytes.items s

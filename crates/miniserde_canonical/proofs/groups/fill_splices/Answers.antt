@@ -1,7 +1,7 @@
 -- The text up to each splice, and its group.
 use Rattle.std.proofs.Common.{rules, ◌≡◌, refl, length, sym, ◌∙◌}
 use Rattle.std.proofs.lemmas.List.{drop_all}
-use Rattle.miniserde_canonical.proofs.Filling.{appends_part, fill_begins, fill_goes, fill_ends, fill_without_splices}
+use Rattle.miniserde_canonical.proofs.FillSplices.{appends_part, fill_begins, fill_goes, fill_ends, fill_without_splices}
 use Rattle.miniserde_canonical.proofs.groups.fill_splices.Goals as goal
 
 pub returns-then-is_empty : goal.returns-then-is_empty

@@ -1,6 +1,6 @@
 -- The output and the text from `at` on, with the splices from `splice-index` on, make the whole text (`Left`).
 use Rattle.std.proofs.Common.{drop}
-use Rattle.miniserde_canonical.proofs.Filling.{Left}
+use Rattle.miniserde_canonical.proofs.FillSplices.{Left}
 use Rattle.miniserde_canonical.proofs.groups.fill_splices.Given as goal
 
 abbrev pub invariant-loop-splice : goal.invariant-loop-splice

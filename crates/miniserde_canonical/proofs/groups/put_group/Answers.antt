@@ -1,6 +1,6 @@
 -- What is written, and what waits, are the text of the group.
 use Rattle.std.proofs.Common.{◌++◌, ◌∙◌, refl, ap, option_to_list}
-use Rattle.miniserde_canonical.proofs.Filling.{group_begins, group_goes, group_less}
+use Rattle.miniserde_canonical.proofs.FillSplices.{group_begins, group_goes, group_less}
 use Rattle.miniserde_canonical.proofs.groups.put_group.Goals as goal
 
 pub loop-span-init : goal.loop-span-init

@@ -1,7 +1,7 @@
 -- The output with the texts of the waiting spans is the old output with the text of the group. The loop ends since
 -- the measure of the waiting spans falls (`spans_measure`).
 use Rattle.std.proofs.Common.{◌≡◌, ◌++◌, List, ℕ}
-use Rattle.miniserde_canonical.specs.private.Waiting.{SpanHolds, SpansHold, spans_measure}
+use Rattle.miniserde_canonical.specs.private.WaitingSpans.{SpanHolds, SpansHold, spans_measure}
 use Rattle.miniserde_canonical.proofs.groups.put_group.Given as goal
 
 abbrev pub invariant-loop-span : goal.invariant-loop-span

@@ -1,6 +1,6 @@
 -- A span is written up to its first splice.
 use Rattle.std.proofs.Common.{◌<◌, length, refl, sym, subst, arith}
-use Rattle.miniserde_canonical.proofs.Filling.{first_in, appends_part, span_splice, span_plain, less_splice}
+use Rattle.miniserde_canonical.proofs.FillSplices.{first_in, appends_part, span_splice, span_plain, less_splice}
 use Rattle.miniserde_canonical.proofs.groups.put_span.Goals as goal
 use Rattle.miniserde_canonical.proofs.groups.put_span.Goals.{else-next-span-via-then-next-span+else-next-splices}
 use Rattle.miniserde_canonical.proofs.groups.put_span.Goals.{else-next-span-via-else-next-span}

@@ -1,8 +1,8 @@
 -- Two exits: eight bytes or more are read as a big-endian number (`first_eight`); of a shorter name, each missing
 -- byte is 0 (`eight_of`).
 use Rattle.std.proofs.Common.{rules, ap, ◌∙◌}
-use Rattle.miniserde_canonical.specs.private.Names.{leading_number}
-use Rattle.miniserde_canonical.proofs.Leading.{first_eight, eight_of}
+use Rattle.miniserde_canonical.specs.private.MemberNames.{leading_number}
+use Rattle.miniserde_canonical.proofs.FirstEight.{first_eight, eight_of}
 use Rattle.miniserde_canonical.proofs.member.leading_bytes.Goals as goal
 
 pub returns-then-b-ge8 : goal.returns-then-b-ge8

@@ -1,6 +1,6 @@
 -- Where the first eight bytes differ, they decide.
 use Rattle.std.proofs.Common.{sym}
-use Rattle.miniserde_canonical.proofs.Leading.{prefix_below, prefix_above}
+use Rattle.miniserde_canonical.proofs.FirstEight.{prefix_below, prefix_above}
 use Rattle.miniserde_canonical.proofs.members.compare_names.Goals as goal
 
 pub returns-then-a-b : goal.returns-then-a-b

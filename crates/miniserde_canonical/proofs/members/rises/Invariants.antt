@@ -2,7 +2,7 @@
 use Rattle.std.proofs.Common.{◌≡◌, ℕ, ◌<◌, ◌+◌, Less, get_or}
 use Rattle.miniserde_model.specs.Normal.{text_cmp}
 use Rattle.miniserde_canonical.specs.declared.member.Member.{Member}
-use Rattle.miniserde_canonical.specs.private.Names.{name_of}
+use Rattle.miniserde_canonical.specs.private.MemberNames.{name_of}
 use Rattle.miniserde_canonical.proofs.members.rises.Given as goal
 
 abbrev pub invariant-loop-i : goal.invariant-loop-i

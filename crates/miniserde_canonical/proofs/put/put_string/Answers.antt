@@ -5,7 +5,7 @@ use Rattle.std.specs.Prelude.{OnOk}
 use Rattle.miniserde_model.specs.Compact.{string_text}
 use Rattle.miniserde_text.specs.Lexer.{text_of}
 use Rattle.miniserde_canonical.specs.private.Plain.{TextPlain}
-use Rattle.miniserde_canonical.proofs.Quoting.{plain_quoted}
+use Rattle.miniserde_canonical.proofs.PlainStrings.{plain_quoted}
 use Rattle.miniserde_canonical.proofs.put.put_string.Goals as goal
 
 pub returns-in-Input : goal.returns-in-Input

@@ -1,15 +1,15 @@
 -- `draft_of` returns the draft of the text's tree, or `Invalid` if the text has no tree. The tokens so far are the
--- invariant (`Taken`), and each exit is a lemma over plain variables of `Wholes.antt` or `Taking.antt`.
+-- invariant (`Taken`), and each exit is a lemma over plain variables of `WholeTexts.antt` or `ReaderDrafts.antt`.
 use Rattle.std.proofs.Common.{◌≡◌, None, length, sym, ap, subst, ◌∙◌}
 use Rattle.std.proofs.lemmas.Result.{err_from_is_err_and}
 use Rattle.miniserde_model.specs.private.Reading.{due, after}
 use Rattle.miniserde_text.specs.private.Stack.{innermost}
-use Rattle.miniserde_text.specs.private.Moving.{first_or_after, due_or_after}
-use Rattle.miniserde_canonical.specs.private.Moving.{ReadsTokens}
+use Rattle.miniserde_text.specs.private.Moments.{first_or_after, due_or_after}
+use Rattle.miniserde_canonical.specs.private.EventTokens.{ReadsTokens}
 use Rattle.miniserde_canonical.specs.private.Drafts.{draft_at, DraftTakes, Holding}
-use Rattle.miniserde_canonical.proofs.Drafting.{keep_holding}
-use Rattle.miniserde_canonical.proofs.Wholes.{barred_from, barred_json, invalid_exit, end_invalid}
-use Rattle.miniserde_canonical.proofs.Taking.{taken_first, taken_more, taken_all}
+use Rattle.miniserde_canonical.proofs.DraftSteps.{keep_holding}
+use Rattle.miniserde_canonical.proofs.WholeTexts.{rejects_from, rejects_json, invalid_exit, end_invalid}
+use Rattle.miniserde_canonical.proofs.ReaderDrafts.{taken_first, taken_more, taken_all}
 use Rattle.miniserde_canonical.proofs.read.draft_of.Goals as goal
 
 pub loop-kind-init : goal.loop-kind-init
@@ -56,8 +56,8 @@ loop-kind-preserved c =
 pub returns-in_err-first-clause-invalid : goal.returns-in_err-first-clause-invalid
 returns-in_err-first-clause-invalid c = λ e.
     let w = err_from_is_err_and c.from_residual.result c.from_residual.ensures.1 in
-    barred_json c.args.j.now
-    (barred_from _ _ _ _ c.new-3.ensures (ap (λ l. l.rest) c.new.ensures)
+    rejects_json c.args.j.now
+    (rejects_from _ _ _ _ c.new-3.ensures (ap (λ l. l.rest) c.new.ensures)
     (c.in_err-first.ensures.invalid (cc (w.1, w.2, e))))
 
 pub returns-in_err-take_child_or_end-clause-invalid : goal.returns-in_err-take_child_or_end-clause-invalid

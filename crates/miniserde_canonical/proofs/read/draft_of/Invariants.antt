@@ -1,8 +1,8 @@
 -- The lexer has no error, and the draft took the tokens of the text that was read (`Taken`). The loop ends since the
 -- rest of the text gets shorter.
 use Rattle.std.proofs.Common.{◌≡◌, None, length}
-use Rattle.miniserde_text.specs.private.Moving.{first_or_after}
-use Rattle.miniserde_canonical.proofs.Taking.{Taken}
+use Rattle.miniserde_text.specs.private.Moments.{first_or_after}
+use Rattle.miniserde_canonical.proofs.ReaderDrafts.{Taken}
 use Rattle.miniserde_canonical.proofs.read.draft_of.Given as goal
 
 abbrev pub invariant-loop-kind : goal.invariant-loop-kind

@@ -1,7 +1,7 @@
 -- Two exits: a text without splices is moved from the groups to `out` (`back_short`), and for any other text `out`
 -- gets a splice (`back_splice`).
 use Rattle.std.proofs.Common.{refl}
-use Rattle.miniserde_canonical.proofs.Sorting.{back_short, back_splice}
+use Rattle.miniserde_canonical.proofs.SortMembers.{back_short, back_splice}
 use Rattle.miniserde_canonical.proofs.sort_members.put_back.Goals as goal
 
 pub returns-then-saturating_sub-longest : goal.returns-then-saturating_sub-longest

@@ -1,5 +1,5 @@
 -- The comma and the span of the member, appended one after the other, are the text of the member (`gains_member`).
-use Rattle.miniserde_canonical.proofs.Sorting.{gains_member}
+use Rattle.miniserde_canonical.proofs.SortMembers.{gains_member}
 use Rattle.std.proofs.Common.{refl}
 use Rattle.miniserde_canonical.proofs.sort_members.put_member.Goals as goal
 

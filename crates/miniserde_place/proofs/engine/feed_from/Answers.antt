@@ -5,12 +5,12 @@ use Rattle.std.proofs.lemmas.Result.{err_from_is_err_and}
 use Rattle.miniserde_text.specs.Lexer.{event_of_token}
 use Rattle.miniserde_place.specs.Place.{Advances, BeginsTree}
 use Rattle.miniserde_text.specs.private.Stack.{with_opened, innermost}
-use Rattle.miniserde_text.specs.private.Moving.{opened_kind}
+use Rattle.miniserde_text.specs.private.Moments.{opened_kind}
 use Rattle.miniserde_read.proofs.Tokens.{start_event}
-use Rattle.miniserde_place.specs.private.Runs.{Moved, state_before, after_move}
+use Rattle.miniserde_place.specs.private.EngineRuns.{Moved, state_before, after_move}
 use Rattle.miniserde_text.proofs.Consumes.{start_ends, value_passed}
-use Rattle.miniserde_place.proofs.Moved.{Moved-append, moved_one, barred_one, never_barred}
-use Rattle.miniserde_place.proofs.Feeds.{Fed, first_barred, later_barred, moved_init, feed_ok, begun_none, begun, if_err, keeps_exit}
+use Rattle.miniserde_place.proofs.Moved.{Moved-append, moved_one, rejects_one, never_rejects}
+use Rattle.miniserde_place.proofs.Feeds.{Fed, first_rejects, later_rejects, moved_init, feed_ok, begun_none, begun, if_err, exit_sticky}
 use Rattle.miniserde_place.proofs.Spelled.{start_spellable, inside_unfinished}
 use Rattle.miniserde_place.proofs.engine.feed_from.Goals as goal
 
@@ -20,7 +20,7 @@ returns-in_err-first-clause-invalid g c = λ e t r p.
     let v = g.V.Visitor.meaning.view in
     let ev = event_of_token c.args.token c.args.source.now.scratch in
     let s = c.args.source.now.rest in
-    first_barred (v c.args.place.now) ev s c.requires.fresh
+    first_rejects (v c.args.place.now) ev s c.requires.fresh
     (c.in_err-first.ensures.rejects (cc (w.1, w.2, e))) t r p
 
 pub loop-kind-init : goal.loop-kind-init
@@ -44,7 +44,7 @@ returns-in_err-take_child_or_end-clause-invalid g c = λ e t r p.
     let fed : Fed (v c.args.place.now) ev s
     (state_before c.loop-kind.first c.loop-kind.stack c.loop-kind.source.rest (v c.loop-kind.place)) =
     record { view = v c.enter.new.place; starts = c.in_ok-first.ensures.advances; moved = c.loop-kind.invariant.moved } in
-    later_barred c.requires.fresh fed (c.in_err-take_child_or_end.ensures.invalid (cc (w.1, w.2, e))) t r p
+    later_rejects c.requires.fresh fed (c.in_err-take_child_or_end.ensures.invalid (cc (w.1, w.2, e))) t r p
 
 pub returns-in_err-token-clause-invalid : goal.returns-in_err-token-clause-invalid
 returns-in_err-token-clause-invalid g c = λ e t r p.
@@ -62,8 +62,8 @@ returns-in_err-token-clause-invalid g c = λ e t r p.
       starts = c.in_ok-first.ensures.advances;
       moved = Moved-append c.loop-kind.invariant.moved moved;
     } in
-    later_barred c.requires.fresh fed
-    (never_barred
+    later_rejects c.requires.fresh fed
+    (never_rejects
     (after_move true c.take_child_or_end.new.stack c.take_child_or_end.new.source.rest (v c.take_child_or_end.new.place))
     (start_ends c.take_child_or_end.new.stack c.take_child_or_end.new.source.rest
     (c.in_err-token.ensures.invalid (cc (w.1, w.2, e)) c.in_ok-take_child_or_end.ensures.going))) t r p
@@ -88,8 +88,8 @@ returns-in_err-first-2-clause-invalid g c = λ e t r p.
       moved = Moved-append c.loop-kind.invariant.moved moved;
     } in
     let ew = event_of_token c.in_ok-token.token c.token.new.self.scratch in
-    later_barred c.requires.fresh fed
-    (barred_one
+    later_rejects c.requires.fresh fed
+    (rejects_one
     (after_move true c.take_child_or_end.new.stack c.take_child_or_end.new.source.rest (v c.take_child_or_end.new.place)) ew
     (value_passed c.take_child_or_end.new.stack c.take_child_or_end.new.source.rest c.token.new.self.rest ew _ _
     c.in_ok-token.ensures.ok refl refl) (c.in_err-first-2.ensures.rejects (cc (w.1, w.2, e)))) t r p
@@ -147,7 +147,7 @@ pub returns-in_err-first-clause-sticky : goal.returns-in_err-first-clause-sticky
 returns-in_err-first-clause-sticky g c =
     let v = g.V.Visitor.meaning.view in
     let w = err_from_is_err_and c.from_residual.result c.from_residual.ensures.1 in
-    keeps_exit v (v c.args.place.now) c.args.place.now c.enter.new.place
+    exit_sticky v (v c.args.place.now) c.args.place.now c.enter.new.place
     c.from_residual.result c.in_err-first.field-0.0 (cc (w.1, w.2)) c.requires.unrefused
     (begun_none (v c.args.place.now)) c.in_err-first.ensures.sticky
 
@@ -160,7 +160,7 @@ returns-in_err-take_child_or_end-clause-sticky g c =
     (state_before c.loop-kind.first c.loop-kind.stack c.loop-kind.source.rest (v c.loop-kind.place)) =
     record { view = v c.enter.new.place; starts = c.in_ok-first.ensures.advances; moved = c.loop-kind.invariant.moved } in
     let w = err_from_is_err_and c.from_residual-in_err-take_child_or_end.result c.from_residual-in_err-take_child_or_end.ensures.1 in
-    keeps_exit v (v c.args.place.now) c.loop-kind.place
+    exit_sticky v (v c.args.place.now) c.loop-kind.place
     c.take_child_or_end.new.place c.from_residual-in_err-take_child_or_end.result
     c.in_err-take_child_or_end.field-0.0 (cc (w.1, w.2)) c.loop-kind.invariant.unrefused
     (begun c.args.token c.args.source.now.scratch fed
@@ -207,7 +207,7 @@ returns-in_err-first-2-clause-sticky g c =
       starts = c.in_ok-first.ensures.advances;
       moved = Moved-append c.loop-kind.invariant.moved moved;
     } in
-    keeps_exit v (v c.args.place.now) c.take_child_or_end.new.place
+    exit_sticky v (v c.args.place.now) c.take_child_or_end.new.place
     c.enter-then-branch.new.place c.from_residual-in_err-first-2.result c.in_err-first-2.field-0.0
     (cc (w.1, w.2)) c.in_ok-take_child_or_end.ensures.unrefused
     (begun c.args.token c.args.source.now.scratch fed tt) c.in_err-first-2.ensures.sticky

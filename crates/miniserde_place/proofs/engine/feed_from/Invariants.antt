@@ -2,7 +2,7 @@
 -- move up to the present moment (`Moved`). Each turn shortens the text.
 use Rattle.std.proofs.Common.{◌≡◌, None, length}
 use Rattle.miniserde_text.specs.Lexer.{event_of_token}
-use Rattle.miniserde_place.specs.private.Runs.{Moved, after_first, state_before}
+use Rattle.miniserde_place.specs.private.EngineRuns.{Moved, after_first, state_before}
 use Rattle.miniserde_place.proofs.engine.feed_from.Given as goal
 
 abbrev pub invariant-loop-kind : goal.invariant-loop-kind

@@ -6,8 +6,8 @@ use Rattle.miniserde_model.specs.Step.{key, element, finish}
 use Rattle.miniserde_model.specs.Lexing.{Names, Follows}
 use Rattle.miniserde_text.specs.Lexer.{is_close}
 use Rattle.miniserde_text.proofs.Consumes.{close_passed, element_passed, key_passed, after_ends, name_ends}
-use Rattle.miniserde_place.specs.private.Runs.{state_before}
-use Rattle.miniserde_place.proofs.Moved.{moved_one, barred_one, never_barred}
+use Rattle.miniserde_place.specs.private.EngineRuns.{state_before}
+use Rattle.miniserde_place.proofs.Moved.{moved_one, rejects_one, never_rejects}
 use Rattle.miniserde_place.proofs.Spelled.{close_spellable, element_spellable, key_spellable}
 use Rattle.miniserde_read.proofs.Length.{follows_least, stands_least}
 use Rattle.miniserde_place.proofs.engine.take_child_or_end.Goals as goal
@@ -15,7 +15,7 @@ use Rattle.miniserde_place.proofs.engine.take_child_or_end.Goals as goal
 pub returns-in_err-after-clause-invalid : goal.returns-in_err-after-clause-invalid
 returns-in_err-after-clause-invalid g c = λ e.
     let w = err_from_is_err_and c.from_residual.result c.from_residual.ensures.1 in
-    never_barred (state_before c.args.first c.args.stack.now c.args.source.now.rest (g.V.Visitor.meaning.view c.args.place.now))
+    never_rejects (state_before c.args.first c.args.stack.now c.args.source.now.rest (g.V.Visitor.meaning.view c.args.place.now))
     (after_ends _ _ c.args.kind c.args.first c.requires.inside
     (c.in_err-after.ensures.invalid (cc (w.1, w.2, e)) c.requires.going))
 
@@ -25,7 +25,7 @@ returns-in_err-step-in-Close-clause-invalid g c = λ e.
     let p : Follows c.args.kind c.args.first true c.args.source.now.rest c.after.new.self.rest =
     subst (λ z. Follows c.args.kind c.args.first (is_close z) c.args.source.now.rest c.after.new.self.rest)
     c.in-Close.is c.in_ok-after.ensures.ok in
-    barred_one (state_before c.args.first c.args.stack.now c.args.source.now.rest (g.V.Visitor.meaning.view c.args.place.now)) finish
+    rejects_one (state_before c.args.first c.args.stack.now c.args.source.now.rest (g.V.Visitor.meaning.view c.args.place.now)) finish
     (close_passed _ _ _ _ c.args.kind c.args.first c.requires.inside p c.pop.ensures)
     (c.in_err-step-in-Close.ensures.takes.rejects (cc (w.1, w.2, e)) c.requires.unrefused)
 
@@ -35,7 +35,7 @@ returns-in_err-step-in-Seq-clause-invalid g c = λ e.
     let p : Follows c.args.kind c.args.first false c.args.source.now.rest c.after.new.self.rest =
     subst (λ z. Follows c.args.kind c.args.first (is_close z) c.args.source.now.rest c.after.new.self.rest)
     c.in-Next.is c.in_ok-after.ensures.ok in
-    barred_one (state_before c.args.first c.args.stack.now c.args.source.now.rest (g.V.Visitor.meaning.view c.args.place.now)) element
+    rejects_one (state_before c.args.first c.args.stack.now c.args.source.now.rest (g.V.Visitor.meaning.view c.args.place.now)) element
     (element_passed _ _ _ c.args.kind c.args.first c.requires.inside c.in-Seq.is p)
     (c.in_err-step-in-Seq.ensures.takes.rejects (cc (w.1, w.2, e)) c.requires.unrefused)
 
@@ -45,7 +45,7 @@ returns-in_err-name-in-Map-clause-invalid g c = λ e.
     let p : Follows c.args.kind c.args.first false c.args.source.now.rest c.after.new.self.rest =
     subst (λ z. Follows c.args.kind c.args.first (is_close z) c.args.source.now.rest c.after.new.self.rest)
     c.in-Next.is c.in_ok-after.ensures.ok in
-    never_barred (state_before c.args.first c.args.stack.now c.args.source.now.rest (g.V.Visitor.meaning.view c.args.place.now))
+    never_rejects (state_before c.args.first c.args.stack.now c.args.source.now.rest (g.V.Visitor.meaning.view c.args.place.now))
     (name_ends _ _ _ c.args.kind c.args.first c.requires.inside c.in-Map.is p
     (c.in_err-name-in-Map.ensures.invalid (cc (w.1, w.2, e)) c.in_ok-after.ensures.going))
 
@@ -58,7 +58,7 @@ returns-in_err-step-in-Map-clause-invalid g c = λ e.
     let n : Names c.after.new.self.rest c.text.result.now c.name.new.self.rest =
     subst (λ z. Names c.after.new.self.rest z c.name.new.self.rest) (sym c.text.ensures)
     c.in_ok-name-in-Map.ensures.ok in
-    barred_one (state_before c.args.first c.args.stack.now c.args.source.now.rest (g.V.Visitor.meaning.view c.args.place.now))
+    rejects_one (state_before c.args.first c.args.stack.now c.args.source.now.rest (g.V.Visitor.meaning.view c.args.place.now))
     (key c.text.result.now) (key_passed _ _ _ _ _ c.args.kind c.args.first c.requires.inside c.in-Map.is p n)
     (c.in_err-step-in-Map.ensures.takes.rejects (cc (w.1, w.2, e)) c.requires.unrefused)
 

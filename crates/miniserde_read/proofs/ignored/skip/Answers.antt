@@ -4,7 +4,7 @@ use Rattle.std.proofs.Common.{◌≡◌, [], None, is_some, sym, ap, ◌∙◌}
 use Rattle.std.proofs.lemmas.Result.{err_from_is_err_and}
 use Rattle.miniserde_text.specs.Lexer.{event_of_token}
 use Rattle.miniserde_text.specs.private.Stack.{with_opened, innermost}
-use Rattle.miniserde_text.specs.private.Moving.{opened_kind, first_or_after}
+use Rattle.miniserde_text.specs.private.Moments.{opened_kind, first_or_after}
 use Rattle.miniserde_text.proofs.Consumes.{Reaches-append, ends_behind}
 use Rattle.miniserde_read.proofs.Skips.{reaches_init, skip_ok, skip_none}
 use Rattle.miniserde_read.proofs.ignored.skip.Goals as goal

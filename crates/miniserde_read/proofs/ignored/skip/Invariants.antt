@@ -3,8 +3,8 @@
 use Rattle.std.proofs.Common.{◌≡◌, ℕ, List, None, [], is_some, length}
 use Rattle.miniserde_text.specs.Lexer.{event_of_token}
 use Rattle.miniserde_text.specs.private.Stack.{with_opened}
-use Rattle.miniserde_text.specs.private.Moving.{first_or_after, opened_kind}
-use Rattle.miniserde_text.specs.private.Runs.{Reaches}
+use Rattle.miniserde_text.specs.private.Moments.{first_or_after, opened_kind}
+use Rattle.miniserde_text.specs.private.EventRuns.{Reaches}
 use Rattle.miniserde_read.proofs.ignored.skip.Given as goal
 
 abbrev pub invariant-loop-kind : goal.invariant-loop-kind

@@ -6,8 +6,8 @@ use Rattle.std.proofs.lemmas.Result.{err_from_is_err_and, IfOk-weaker}
 use Rattle.miniserde_model.specs.Lexing.{Follows}
 use Rattle.miniserde_model.specs.private.Reading.{due}
 use Rattle.miniserde_text.specs.Lexer.{is_close}
-use Rattle.miniserde_text.specs.private.Moving.{first_or_after}
-use Rattle.miniserde_text.specs.private.Runs.{Reaches}
+use Rattle.miniserde_text.specs.private.Moments.{first_or_after}
+use Rattle.miniserde_text.specs.private.EventRuns.{Reaches}
 use Rattle.miniserde_text.proofs.Consumes.{close_passed, element_passed, key_passed, after_ends, name_ends}
 use Rattle.miniserde_text.proofs.Consumes.{ends_behind, Reaches-one, Reaches-append}
 use Rattle.miniserde_read.proofs.ignored.take_child_or_end.Goals as goal

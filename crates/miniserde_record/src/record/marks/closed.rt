@@ -43,7 +43,7 @@ impl Slots for Closed {
 impl WrittenFields for Closed {
     type Values = ();
 
-    ghost real = { λ _. ⊤ };
+    ghost valid = { λ _. ⊤ };
 
     ghost trees = { λ _. [] };
 }

@@ -22,7 +22,7 @@ use std::result;
 // the key is valid.
 fn name_of<K: MapKey>(alloc: Global, key: &K) -> Result<String>
     ensures text { IfOk result (λ name. string_bytes name ≡ K.text key.now) }
-    ensures real { K.real key.now }
+    ensures valid { K.valid key.now }
     ensures memory { OnErr result (IsErrOf result Memory) }
 {
     key.ranged();

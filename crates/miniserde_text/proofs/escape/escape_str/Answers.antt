@@ -1,5 +1,5 @@
 -- A text in which each byte stands for itself is what it is written as.
-use Rattle.miniserde_text.proofs.Escaping.{escapes_plain}
+use Rattle.miniserde_text.proofs.EscapeRule.{escapes_plain}
 use Rattle.miniserde_text.proofs.escape.escape_str.Goals as goal
 
 pub put_plain-requires-clause-plain : goal.put_plain-requires-clause-plain

@@ -2,7 +2,7 @@
 -- count: the bytes of the text, and for each escape before `at` its length less one.
 use Rattle.std.proofs.Common.{◌≡◌, ◌+◌, ◌≤◌, ◌^◌, arith, ap, length, refl, rules}
 use Rattle.miniserde_text.specs.private.Escape.{escapes}
-use Rattle.miniserde_text.proofs.Escaping.{escapes-nil, length_escapes_more, length_escapes_rest, length_escapes_run}
+use Rattle.miniserde_text.proofs.EscapeRule.{escapes-nil, length_escapes_more, length_escapes_rest, length_escapes_run}
 use Rattle.miniserde_text.proofs.escape.escaped_len.Goals as goal
 
 pub loop-at-init : goal.loop-at-init

@@ -2,7 +2,7 @@
 -- is no longer than a sixth of the free bytes without `extra`.
 use Rattle.std.proofs.Common.{arith}
 use Rattle.std.proofs.lemmas.Bool.{leb-true}
-use Rattle.miniserde_text.proofs.Escaping.{length_escapes_six}
+use Rattle.miniserde_text.proofs.EscapeRule.{length_escapes_six}
 use Rattle.miniserde_text.proofs.escape.has_ample_room.Goals as goal
 
 pub returns-then-extra-free : goal.returns-then-extra-free

@@ -1,7 +1,7 @@
 -- A character that needs no escape is written as its bytes (`escapes_high`, `escapes_stays`), and any other is a byte
 -- that is written as its escape, of six bytes at most (`escapes_low`, `length_escape_le`).
 use Rattle.std.proofs.Common.{arith}
-use Rattle.miniserde_text.proofs.Escaping.{escapes_high, escapes_stays, escapes_low, length_escape_le}
+use Rattle.miniserde_text.proofs.EscapeRule.{escapes_high, escapes_stays, escapes_low, length_escape_le}
 use Rattle.miniserde_text.proofs.escape.push_escaped.Goals as goal
 
 pub returns-then-code-ge128 : goal.returns-then-code-ge128

@@ -6,7 +6,14 @@ use Rattle.std.proofs.lemmas.Str.{IsCharBoundary-after_ascii, IsCharBoundary-end
 use Rattle.std.proofs.lemmas.List.{length-take}
 use Rattle.miniserde_model.specs.Bytes.{is_special}
 use Rattle.miniserde_text.specs.private.Escape.{escape, escapes}
-use Rattle.miniserde_text.proofs.Escaping.{escapes-nil, escapes_run, escapes_more, length_escapes_le, length_escapes_more, is_special_ascii}
+use Rattle.miniserde_text.proofs.EscapeRule.{
+  escapes-nil,
+  escapes_run,
+  escapes_more,
+  length_escapes_le,
+  length_escapes_more,
+  is_special_ascii,
+}
 use Rattle.miniserde_text.proofs.escape.put_escapes.Goals as goal
 
 pub loop-start-init : goal.loop-start-init

@@ -3,7 +3,7 @@ use Rattle.std.proofs.Common.{◌≡◌, ◌+◌, ◌<◌, ℕ, Bool, true, fals
 use Rattle.std.proofs.Common.{if◌then◌else◌, length, length-append, refl, rules, string_capacity, string_len}
 use Rattle.miniserde_model.specs.Compact.{string_text}
 use Rattle.miniserde_text.specs.private.Escape.{escapes}
-use Rattle.miniserde_text.proofs.Escaping.{quoted_escapes}
+use Rattle.miniserde_text.proofs.EscapeRule.{quoted_escapes}
 use Rattle.miniserde_text.proofs.escape.put_name.Goals as goal
 
 -- a comma or none, a quote, what stands between the quotes, a quote and a colon

@@ -1,7 +1,7 @@
 -- The pieces that are pushed make the answer, and its length is what the call makes room for.
 use Rattle.std.proofs.Common.{◌≡◌, ◌+◌, ◌<◌, Ok, arith, length, rules, string_capacity, string_len}
 use Rattle.miniserde_model.specs.Compact.{string_text}
-use Rattle.miniserde_text.proofs.Escaping.{between_quotes, length_quoted}
+use Rattle.miniserde_text.proofs.EscapeRule.{between_quotes, length_quoted}
 use Rattle.miniserde_text.proofs.escape.put_other.Goals as goal
 
 pub returns : goal.returns

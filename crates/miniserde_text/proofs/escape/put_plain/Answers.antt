@@ -1,7 +1,7 @@
 -- As in `put_other`, with a text that is its own escapes.
 use Rattle.std.proofs.Common.{◌≡◌, ◌+◌, ◌<◌, Ok, ap, arith, length, rules, string_capacity, string_len}
 use Rattle.miniserde_model.specs.Compact.{string_text}
-use Rattle.miniserde_text.proofs.Escaping.{between_quotes, length_quoted}
+use Rattle.miniserde_text.proofs.EscapeRule.{between_quotes, length_quoted}
 use Rattle.miniserde_text.proofs.escape.put_plain.Goals as goal
 
 pub returns : goal.returns

@@ -1,7 +1,7 @@
 -- A text in which each byte stands for itself is what it is written as.
 use Rattle.std.proofs.Common.{◌≡◌, Ok, ap, arith, length}
 use Rattle.miniserde_text.specs.private.Escape.{escapes}
-use Rattle.miniserde_text.proofs.Escaping.{escapes_plain}
+use Rattle.miniserde_text.proofs.EscapeRule.{escapes_plain}
 use Rattle.miniserde_text.proofs.escape.put_text.Goals as goal
 
 pub unwrap-requires : goal.unwrap-requires

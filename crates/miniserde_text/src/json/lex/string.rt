@@ -5,7 +5,7 @@ ghost use Rattle.std.specs.Str.{encode_utf8_all, IsCharBoundary};
 ghost use Rattle.std.specs.String.{string_bytes};
 ghost use Rattle.miniserde_text.specs.Lexer.{text_of, LeavesScratch, SpelledText};
 ghost use Rattle.miniserde_text.specs.private.Reading.{after_run, before, is_unescaped, FollowsAscii};
-ghost use Rattle.miniserde_text.specs.private.Taking.{SpellsUpToQuote, Adds, TakesText, ReachesBackslash};
+ghost use Rattle.miniserde_text.specs.private.LexerParts.{SpellsUpToQuote, Adds, TakesText, ReachesBackslash};
 
 use super::Text;
 use super::bytes::{byte_at, index_after, text_between};

@@ -7,8 +7,8 @@ ghost use Rattle.miniserde_model.specs.Step as step;
 ghost use Rattle.miniserde_text.specs.Lexer.{event_of_token, text_of, LeavesScratch, TokenLeavesScratch};
 ghost use Rattle.miniserde_text.specs.Lexer.{SpelledText, SpelledToken};
 ghost use Rattle.miniserde_text.specs.private.Reading.{word_at, token_by};
-ghost use Rattle.miniserde_text.specs.private.Taking.{TakesToken, TakesName, TokenTakesText, NameTakesText};
-ghost use Rattle.miniserde_text.specs.private.Taking.{ReachesBackslash};
+ghost use Rattle.miniserde_text.specs.private.LexerParts.{TakesToken, TakesName, TokenTakesText, NameTakesText};
+ghost use Rattle.miniserde_text.specs.private.LexerParts.{ReachesBackslash};
 
 use super::bytes::index_after;
 use super::number::take_number;

@@ -18,8 +18,8 @@ loop-row-preserved g c =
     let key = rw c.as_str.ensures.value at c.in_ok-key.ensures.read in
     let value = rw c.as_str-in-loop-row.ensures.value at c.in_ok-value.ensures.read in
     let more = zip_more texts_of
-    (λ entry read. IsReadFrom g.K.FromJson.means g.K.Serialize.tree g.K.Ranged.real entry.0 read.0
-    × IsReadFrom g.V.FromJson.means g.V.Serialize.tree g.V.Ranged.real entry.1 read.1)
+    (λ entry read. IsReadFrom g.K.FromJson.means g.K.Serialize.tree g.K.Ranged.valid entry.0 read.0
+    × IsReadFrom g.V.FromJson.means g.V.Serialize.tree g.V.Ranged.valid entry.1 read.1)
     seen i c.row-item.result c.loop-row.listed.items (c.in_ok-key.key, c.in_ok-value.value) low c.row-item.is c.loop-row.invariant
     (key, value) in
     rw c.in_ok-push.ensures.items more
@@ -33,8 +33,8 @@ returns-clause-rows g c clean has =
     let read = read_all texts_of c.in_ok-rows.rows.items seen i (map texts_of (take i seen)) c.deref-row-items.ensures.value end refl in (
       entries,
       c.in_ok-rows.ensures.rows clean has,
-      subst (λ zs. AllZip (λ entry read. IsReadFrom g.K.FromJson.means g.K.Serialize.tree g.K.Ranged.real entry.0 read.0
-          × IsReadFrom g.V.FromJson.means g.V.Serialize.tree g.V.Ranged.real entry.1 read.1) zs c.loop-row.listed.items)
+      subst (λ zs. AllZip (λ entry read. IsReadFrom g.K.FromJson.means g.K.Serialize.tree g.K.Ranged.valid entry.0 read.0
+          × IsReadFrom g.V.FromJson.means g.V.Serialize.tree g.V.Ranged.valid entry.1 read.1) zs c.loop-row.listed.items)
           (sym read) c.loop-row.invariant,
     )
 

@@ -7,6 +7,6 @@ use Rattle.rows.proofs.values.all.Given as goal
 
 abbrev pub invariant-loop-row : goal.invariant-loop-row
 invariant-loop-row g l =
-    AllZip (λ entry read. IsReadFrom g.K.FromJson.means g.K.Serialize.tree g.K.Ranged.real entry.0 read.0
-    × IsReadFrom g.V.FromJson.means g.V.Serialize.tree g.V.Ranged.real entry.1 read.1)
+    AllZip (λ entry read. IsReadFrom g.K.FromJson.means g.K.Serialize.tree g.K.Ranged.valid entry.0 read.0
+    × IsReadFrom g.V.FromJson.means g.V.Serialize.tree g.V.Ranged.valid entry.1 read.1)
     (map texts_of (take l.row-index l.row-items)) l.listed.items

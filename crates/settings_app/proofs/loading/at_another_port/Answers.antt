@@ -8,7 +8,7 @@ use Rattle.miniserde.specs.Normal.{norm_members}
 use Rattle.settings.specs.contracts.parts.HostFromJson.TheImpl as host
 use Rattle.settings.specs.contracts.parts.TlsFromJson.TheImpl as tls
 use Rattle.settings.specs.contracts.types.SettingsFromJson.TheImpl as settings
-use Rattle.settings_app.specs.Changes.{at_port, with_last}
+use Rattle.settings_app.specs.Changes.{at_port, with_member_behind}
 use Rattle.settings_app.proofs.Members.{only_change}
 use Rattle.settings_app.proofs.Meanings.{with_port}
 use Rattle.settings_app.proofs.loading.at_another_port.Goals as goal
@@ -20,7 +20,7 @@ returns-clause-ok c =
     let l = c.in_ok-load.ensures.ok in
     let s = c.in_ok-load.field-0 in
     let w = c.in_ok-changed.ensures.ok in
-    let t = members (with_last port u w.0) in
+    let t = members (with_member_behind port u w.0) in
     let same = c.text_has_one_tree.ensures c.args.text.now l.0 (members w.0) l.1 w.1 in
     let means = subst (λ t. settings.ghosts.means.reads t s) same l.2 in
     let small : c.args.port < 65536 = (let fits = c.ranges.port in omega arith) in
@@ -29,7 +29,7 @@ returns-clause-ok c =
     ((c.settings_meant.ensures (members w.0) s).0 means)) in (
       w.0,
       s,
-      norm_members (with_last port u w.0),
+      norm_members (with_member_behind port u w.0),
       w.1,
       means,
       w.2,

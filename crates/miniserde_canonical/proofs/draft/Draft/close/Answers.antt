@@ -2,11 +2,11 @@
 -- names, each name once. By cases: fewer members than the mark is impossible, names that rise leave the text as it
 -- is, and all others are sorted.
 use Rattle.std.proofs.Common.{rules, ◌≡◌, ◌≤◌, ◌<◌, [], length, take, drop, refl, sym, ap, subst, ◌∙◌, inl, inr, arith}
-use Rattle.miniserde_canonical.specs.private.Arranging.{State, entries_text}
+use Rattle.miniserde_canonical.specs.private.States.{State, entries_text}
 use Rattle.miniserde_canonical.specs.private.Drafts.{Holding}
-use Rattle.miniserde_canonical.proofs.Drafting.{behind, too_few, closes, rises_behind, keep_holding, holding_same}
-use Rattle.miniserde_canonical.proofs.Drafting.{holding_sorted, sorted_like}
-use Rattle.miniserde_canonical.proofs.Running.{rewound}
+use Rattle.miniserde_canonical.proofs.DraftSteps.{behind, too_few, closes, rises_behind, keep_holding, holding_same}
+use Rattle.miniserde_canonical.proofs.DraftSteps.{holding_sorted, sorted_like}
+use Rattle.miniserde_canonical.proofs.InputRuns.{rewound}
 use Rattle.miniserde_canonical.proofs.draft.Draft.close.Goals as goal
 
 pub returns-then-len-before : goal.returns-then-len-before

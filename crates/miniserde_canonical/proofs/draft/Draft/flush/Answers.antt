@@ -1,7 +1,7 @@
 -- The part of the input that is appended is the run, so the text becomes the draft's bytes (`flushed`).
 use Rattle.std.proofs.Common.{◌≡◌, ◌≤◌, length, refl, subst}
-use Rattle.miniserde_canonical.specs.private.Spreads.{part_between}
-use Rattle.miniserde_canonical.proofs.Running.{flushed}
+use Rattle.miniserde_canonical.specs.private.SplicedTexts.{part_between}
+use Rattle.miniserde_canonical.proofs.InputRuns.{flushed}
 use Rattle.miniserde_canonical.proofs.draft.Draft.flush.Goals as goal
 
 pub returns-clause-wrote : goal.returns-clause-wrote

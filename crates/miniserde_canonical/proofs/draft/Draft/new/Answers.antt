@@ -1,6 +1,6 @@
 -- A draft without bytes, splices and members represents the state `start` (`draft_starts`).
 use Rattle.std.proofs.Common.{refl}
-use Rattle.miniserde_canonical.proofs.Drafting.{draft_starts}
+use Rattle.miniserde_canonical.proofs.DraftSteps.{draft_starts}
 use Rattle.miniserde_canonical.proofs.draft.Draft.new.Goals as goal
 
 pub returns : goal.returns

@@ -1,6 +1,6 @@
 -- The flush writes the run before the whitespace, and the next run begins after it (`rewound`).
 use Rattle.std.proofs.Common.{refl}
-use Rattle.miniserde_canonical.proofs.Running.{rewound}
+use Rattle.miniserde_canonical.proofs.InputRuns.{rewound}
 use Rattle.miniserde_canonical.proofs.draft.Draft.skip.Goals as goal
 
 pub returns-in_ok-flush-clause-wrote : goal.returns-in_ok-flush-clause-wrote

@@ -3,7 +3,7 @@
 use Rattle.std.proofs.Common.{[], ◌∷◌, ◌++◌, refl, ap, ◌∙◌, append_assoc}
 use Rattle.miniserde_model.specs.Compact.{string_text}
 use Rattle.miniserde_text.specs.Lexer.{text_of}
-use Rattle.miniserde_canonical.proofs.Running.{rewound}
+use Rattle.miniserde_canonical.proofs.InputRuns.{rewound}
 use Rattle.miniserde_canonical.proofs.draft.Draft.spell.Goals as goal
 
 pub returns-clause-wrote : goal.returns-clause-wrote

@@ -5,13 +5,13 @@ use Rattle.miniserde_model.specs.Compact.{compact, string_text}
 use Rattle.miniserde_model.specs.Normal.{norm_neg}
 use Rattle.miniserde_text.specs.Lexer.{event_of_token, text_of, SpelledText, SpelledToken}
 use Rattle.miniserde_text.specs.private.Escape.{escapes}
-use Rattle.miniserde_text.proofs.Escaping.{quoted_escapes}
-use Rattle.miniserde_canonical.specs.private.Moving.{first_token}
+use Rattle.miniserde_text.proofs.EscapeRule.{quoted_escapes}
+use Rattle.miniserde_canonical.specs.private.EventTokens.{first_token}
 use Rattle.miniserde_canonical.specs.private.Plain.{SpellsToken}
-use Rattle.miniserde_canonical.specs.private.Arranging.{TokenStep, Adds}
+use Rattle.miniserde_canonical.specs.private.States.{TokenStep, AddsBytes}
 use Rattle.miniserde_canonical.specs.private.Drafts.{Wrote}
-use Rattle.miniserde_canonical.proofs.Drafting.{holding_opened, rewritten, stays}
-use Rattle.miniserde_canonical.proofs.Running.{wrote_on, as_negative, as_it_is, string_stands, decimal_zero}
+use Rattle.miniserde_canonical.proofs.DraftSteps.{holding_opened, rewritten, stays}
+use Rattle.miniserde_canonical.proofs.InputRuns.{wrote_on, as_negative, as_it_is, string_stands, decimal_zero}
 use Rattle.miniserde_canonical.proofs.draft.Draft.token.Goals as goal
 
 pub returns-then-n-ne0-clause-takes : goal.returns-then-n-ne0-clause-takes
@@ -19,7 +19,7 @@ returns-then-n-ne0-clause-takes c = λ rest part rest' x s s' r e f g w p h.
     let q = subst (λ z. SpellsToken z x part) c.in-Negative.is p in
     let a = subst (λ z. TokenStep (first_token (event_of_token z x)) s s') c.in-Negative.is h in
     stays part rest'
-    (subst (λ z. Adds z s s') (sym (as_negative c.in-Negative.n part q.0 (search rules))) a.0) r e
+    (subst (λ z. AddsBytes z s s') (sym (as_negative c.in-Negative.n part q.0 (search rules))) a.0) r e
 
 pub returns-in_ok-push-in-Negative-clause-takes : goal.returns-in_ok-push-in-Negative-clause-takes
 returns-in_ok-push-in-Negative-clause-takes c = λ rest part rest' x s s' r e f g w p h.
@@ -28,7 +28,7 @@ returns-in_ok-push-in-Negative-clause-takes c = λ rest part rest' x s s' r e f 
     let k = c.in_ok-flush-in-Negative.ensures in
     let q = k.wrote rest r.bytes r.wrote f in
     let same = k.only_text in
-    rewritten part (48 ∷ []) (subst (λ z. Adds z s s') (ap (λ z. compact (norm_neg z)) zero ∙ decimal_zero) a.0) r q.0
+    rewritten part (48 ∷ []) (subst (λ z. AddsBytes z s s') (ap (λ z. compact (norm_neg z)) zero ∙ decimal_zero) a.0) r q.0
     (record {
       splices = same.splices;
       groups = same.groups;
@@ -55,7 +55,7 @@ returns-in_ok-put_quoted-in-Str-clause-takes c = λ rest part rest' x s s' r e f
     ap (λ z. 34 ∷ (z ++ 34 ∷ [])) inside ∙ sym (quoted_escapes x) in
     let q = k.wrote rest r.bytes r.wrote f in
     let same = k.only_text in
-    rewritten part (string_text x) (subst (λ z. Adds (string_text (text_of z x)) s s') c.in-Scratch.is a.0) r q.0
+    rewritten part (string_text x) (subst (λ z. AddsBytes (string_text (text_of z x)) s s') c.in-Scratch.is a.0) r q.0
     (record {
       splices = same.splices;
       groups = same.groups;
@@ -83,7 +83,7 @@ pub returns-in-SeqStart-clause-takes : goal.returns-in-SeqStart-clause-takes
 returns-in-SeqStart-clause-takes c = λ rest part rest' x s s' r e f g w p h.
     let q = subst (λ z. SpellsToken z x part) c.in-SeqStart.is p in
     let a = subst (λ z. TokenStep (first_token (event_of_token z x)) s s') c.in-SeqStart.is h in
-    stays part rest' (subst (λ z. Adds z s s') (sym q.0) a.0) r e
+    stays part rest' (subst (λ z. AddsBytes z s s') (sym q.0) a.0) r e
 
 pub returns-in-MapStart-clause-takes : goal.returns-in-MapStart-clause-takes
 returns-in-MapStart-clause-takes c = λ rest part rest' x s s' r e f g w p h.

@@ -1,5 +1,5 @@
 -- `take_child_or_end` reads the token of an end, an element or a name, and the draft takes the same token. By cases
--- of the lexer's result and of the kind, each with a lemma of `Consumes.antt` for the text and one of `Taking.antt` for
+-- of the lexer's result and of the kind, each with a lemma of `Consumes.antt` for the text and one of `ReaderDrafts.antt` for
 -- the draft.
 use Rattle.std.proofs.Common.{◌≡◌, ℕ, List, true, false, ◌∷◌, [], ◌++◌, sym, ap, subst, ◌∙◌, arith}
 use Rattle.std.proofs.lemmas.Result.{err_from_is_err_and}
@@ -8,16 +8,16 @@ use Rattle.miniserde_model.specs.Lexing.{Follows, closing}
 use Rattle.miniserde_model.specs.private.Reading.{after}
 use Rattle.miniserde_text.specs.Lexer.{text_of, is_close}
 use Rattle.miniserde_canonical.specs.CanonicalToken.{name, element}
-use Rattle.miniserde_text.specs.private.Moving.{first_or_after}
-use Rattle.miniserde_canonical.specs.private.Arranging.{comma_before, State, TokenStep}
+use Rattle.miniserde_text.specs.private.Moments.{first_or_after}
+use Rattle.miniserde_canonical.specs.private.States.{comma_before, State, TokenStep}
 use Rattle.miniserde_canonical.specs.private.Drafts.{Wrote, Holding, Represents, draft_at, DraftTakes}
-use Rattle.miniserde_canonical.specs.private.Moving.{end_token}
+use Rattle.miniserde_canonical.specs.private.EventTokens.{end_token}
 use Rattle.miniserde_text.proofs.Consumes.{after_ends, name_ends}
-use Rattle.miniserde_canonical.proofs.Wholes.{reads_finish, reads_element, reads_key}
+use Rattle.miniserde_canonical.proofs.WholeTexts.{reads_finish, reads_element, reads_key}
 use Rattle.miniserde_canonical.proofs.Plains.{name_plain, name_spelled, at_once}
-use Rattle.miniserde_canonical.proofs.Taking.{takes_array_end, takes_object_end, takes_element, takes_name, stands_less}
-use Rattle.miniserde_canonical.proofs.Taking.{follows_less, blank_less, follows_behind, follows_at, names_behind}
-use Rattle.miniserde_canonical.proofs.Taking.{names_at, closing_at, comma_at}
+use Rattle.miniserde_canonical.proofs.ReaderDrafts.{takes_array_end, takes_object_end, takes_element, takes_name, stands_less}
+use Rattle.miniserde_canonical.proofs.ReaderDrafts.{follows_less, blank_less, follows_behind, follows_at, names_behind}
+use Rattle.miniserde_canonical.proofs.ReaderDrafts.{names_at, closing_at, comma_at}
 use Rattle.miniserde_canonical.proofs.read.Reader.take_child_or_end.Goals as goal
 
 pub returns-in_err-after-clause-invalid : goal.returns-in_err-after-clause-invalid
@@ -41,8 +41,8 @@ returns-in_err-text-in-Map-kind-clause-invalid c = λ e.
     (c.in_ok-at-in-Map-kind.ensures.going ∙ c.in_ok-after.ensures.ok.1) n x
     (names_at _ _ n x c.in_ok-at-in-Map-kind.ensures.blank q))
 
-pub name-requires-in-Map-kind : goal.name-requires-in-Map-kind
-name-requires-in-Map-kind c = name_plain c.in_ok-text-in-Map-kind.text (string_bytes c.name.new.scratch) _ _
+pub add_member-requires : goal.add_member-requires
+add_member-requires c = name_plain c.in_ok-text-in-Map-kind.text (string_bytes c.name.new.scratch) _ _
     c.in_ok-text-in-Map-kind.ensures.ok.2 c.in_ok-text-in-Map-kind.ensures.text
 
 pub returns-in-Seq-clause-reads : goal.returns-in-Seq-clause-reads
@@ -104,8 +104,8 @@ returns-in-Seq-kind-clause-reads c =
           (comma_at k c.args.first mid new b.stops p),
     )
 
-pub returns-in_ok-name-in-Map-kind-clause-reads : goal.returns-in_ok-name-in-Map-kind-clause-reads
-returns-in_ok-name-in-Map-kind-clause-reads c =
+pub returns-in_ok-add_member-in-Map-kind-clause-reads : goal.returns-in_ok-add_member-in-Map-kind-clause-reads
+returns-in_ok-add_member-in-Map-kind-clause-reads c =
     let k = c.args.kind in
     let text = c.in_ok-text-in-Map-kind.text in
     let x = string_bytes c.name.new.scratch in
@@ -125,8 +125,8 @@ returns-in_ok-name-in-Map-kind-clause-reads c =
     subst (λ z. Follows k c.args.first (is_close z) mid behind) c.in-Next.is c.in_ok-after.ensures.ok.2 in
     let takes = subst (λ z. (before : List ℕ) (s s' : State) → Wrote d2 at (before ++ comma_before s.first)
     → Holding d2 before s → s.first ≡ c.args.first → TokenStep (name (text_of text z)) s s'
-    → Represents c.name-in-Map-kind.new.self new s') c.as_str.ensures.value
-    (λ before s s' t h f a. c.in_ok-name-in-Map-kind.ensures at q.part new before s s' t h
+    → Represents c.add_member.new.self new s') c.as_str.ensures.value
+    (λ before s s' t h f a. c.in_ok-add_member-in-Map-kind.ensures at q.part new before s s' t h
     (at_once at new q b2.stops) c.in_ok-at-in-Map-kind.ensures.at c.left-end.ensures
     (name_spelled text x at new q c.in_ok-text-in-Map-kind.ensures.text) f a) in (
       name n ∷ [],
@@ -139,8 +139,8 @@ returns-in_ok-name-in-Map-kind-clause-reads c =
           takes,
     )
 
-pub returns-in_ok-name-in-Map-kind-clause-less : goal.returns-in_ok-name-in-Map-kind-clause-less
-returns-in_ok-name-in-Map-kind-clause-less c =
+pub returns-in_ok-add_member-in-Map-kind-clause-less : goal.returns-in_ok-add_member-in-Map-kind-clause-less
+returns-in_ok-add_member-in-Map-kind-clause-less c =
     let a = blank_less _ _ c.in_ok-before.ensures.blank in
     let p = follows_less c.args.kind c.args.first (is_close c.in_ok-after.field-0) _ _ c.in_ok-after.ensures.ok.2 in
     let b = blank_less _ _ c.in_ok-at-in-Map-kind.ensures.blank in

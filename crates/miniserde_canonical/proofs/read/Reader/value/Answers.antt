@@ -5,14 +5,14 @@ use Rattle.std.proofs.lemmas.Result.{err_from_is_err_and}
 use Rattle.miniserde_text.specs.Lexer.{event_of_token, SpelledToken}
 use Rattle.miniserde_text.specs.private.Escape.{escapes}
 use Rattle.miniserde_text.specs.private.Stack.{with_opened}
-use Rattle.miniserde_text.specs.private.Moving.{opened_kind}
-use Rattle.miniserde_canonical.specs.private.Arranging.{State, TokenStep}
+use Rattle.miniserde_text.specs.private.Moments.{opened_kind}
+use Rattle.miniserde_canonical.specs.private.States.{State, TokenStep}
 use Rattle.miniserde_canonical.specs.private.Drafts.{Represents}
-use Rattle.miniserde_canonical.specs.private.Moving.{first_token}
+use Rattle.miniserde_canonical.specs.private.EventTokens.{first_token}
 use Rattle.miniserde_text.proofs.Consumes.{start_ends}
-use Rattle.miniserde_canonical.proofs.Wholes.{reads_start}
+use Rattle.miniserde_canonical.proofs.WholeTexts.{reads_start}
 use Rattle.miniserde_canonical.proofs.Plains.{spelled, at_once}
-use Rattle.miniserde_canonical.proofs.Taking.{starts_behind, starts_at, takes_front}
+use Rattle.miniserde_canonical.proofs.ReaderDrafts.{starts_behind, starts_at, takes_front}
 use Rattle.miniserde_canonical.proofs.read.Reader.value.Goals as goal
 
 pub returns-in_err-event-clause-invalid : goal.returns-in_err-event-clause-invalid

@@ -3,7 +3,7 @@
 use Rattle.std.proofs.Common.{rules, ◌≡◌, ◌++◌, ◌∷◌, [], List, map, length, refl, sym, ap, ap₂, ◌∙◌, append-nil, append_assoc}
 use Rattle.std.proofs.lemmas.List.{map_more, take_all}
 use Rattle.miniserde_canonical.specs.declared.spread.Splice.{Splice}
-use Rattle.miniserde_canonical.specs.private.Spreads.{shifted_splice, bytes_in, splices_in}
+use Rattle.miniserde_canonical.specs.private.SplicedTexts.{shifted_splice, bytes_in, splices_in}
 use Rattle.miniserde_canonical.proofs.spread.SplicedText.append.Goals as goal
 
 pub loop-splice-init : goal.loop-splice-init

@@ -9,6 +9,6 @@ pub returns : goal.returns
 returns g c = λ tag h.
     let i = g.T.Inside in
     let a = both (is_new tag i.fields) (g.R.InsideCases.apart tag) h in (
-      inside-fits tag g.T.Ranged.real g.T.Serialize.tree c.is_object.ensures.object (λ v. c.is_object.ensures.named tag v a.0),
+      inside-fits tag g.T.Ranged.valid g.T.Serialize.tree c.is_object.ensures.object (λ v. c.is_object.ensures.named tag v a.0),
       c.fit.ensures tag a.1,
     )

@@ -9,6 +9,6 @@ returns g c = λ v r.
     let s = g.E.DataEnum in
     let f = g.C.RoundTripCases in
     let tagging = external in
-    enum-round_trips f.real (f.tree tagging s.names) (f.meaning.reads tagging s.names) s.values s.made g.met.E.DataEnum.bijective.1 v
+    enum-round_trips f.valid (f.tree tagging s.names) (f.meaning.reads tagging s.names) s.values s.made g.met.E.DataEnum.bijective.1 v
     (c.round_trips.ensures.round_trips tagging s.names (s.values v) c.round_trips.ensures.external
     (distinct_names f.meaning.count s.names c.requires g.met.E.DataEnum.distinct_names) r)

@@ -3,4 +3,4 @@ use Rattle.miniserde_laws.proofs.LosslessLists.{one_list}
 use Rattle.miniserde_laws.proofs.lossless.ArrayLossless.lossless.Goals as goal
 
 pub returns : goal.returns
-returns g c = λ v w p q e. one_list g.T.Ranged.real g.T.Serialize.tree g.T.FromJson.means.content c.lossless.ensures v w p.1 q.1 e
+returns g c = λ v w p q e. one_list g.T.Ranged.valid g.T.Serialize.tree g.T.FromJson.means.content c.lossless.ensures v w p.1 q.1 e

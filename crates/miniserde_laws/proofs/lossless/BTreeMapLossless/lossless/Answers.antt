@@ -8,6 +8,6 @@ pub returns : goal.returns
 returns g c = λ v w p q e.
     let k = g.K.MapKey in
     let laws = g.met.K.MapKey in
-    one_sorted k.read k.code k.content k.text g.V.Serialize.tree g.V.FromJson.means.content g.K.Ranged.real
-    g.V.Ranged.real laws.back g.met.K.InjectiveKey.injective c.lossless.ensures g.K.Ord.cmp
+    one_sorted k.read k.code k.content k.text g.V.Serialize.tree g.V.FromJson.means.content g.K.Ranged.valid
+    g.V.Ranged.valid laws.back g.met.K.InjectiveKey.injective c.lossless.ensures g.K.Ord.cmp
     (λ a b. sym (g.met.K.Ord.matches_eq a b) ∙ laws.alike a b) v.entries w.entries p q e

@@ -3,4 +3,4 @@ use Rattle.miniserde_laws.proofs.RoundTrips.{round_trips-array}
 use Rattle.miniserde_laws.proofs.round_trip.ArrayRoundTrip.round_trips.Goals as goal
 
 pub returns : goal.returns
-returns g c = λ v r. round_trips-array g.T.Ranged.real g.T.Serialize.tree g.T.FromJson.means.reads c.round_trips.ensures g.row.N v r
+returns g c = λ v r. round_trips-array g.T.Ranged.valid g.T.Serialize.tree g.T.FromJson.means.reads c.round_trips.ensures g.row.N v r

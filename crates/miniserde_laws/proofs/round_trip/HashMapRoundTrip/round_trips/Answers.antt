@@ -9,6 +9,6 @@ returns g c = λ m r.
     let v = g.V.FromJson.means in
     let k = g.K.MapKey in
     let laws = g.met.K.MapKey in
-    round_trips-hashed k.read k.code k.content k.text g.K.Ranged.real g.V.Ranged.real g.V.Serialize.tree v.from_tree v.reads
+    round_trips-hashed k.read k.code k.content k.text g.K.Ranged.valid g.V.Ranged.valid g.V.Serialize.tree v.from_tree v.reads
     (λ t w h. rw ((v.reads_agrees t w).0 h) refl) laws.back laws.one_text c.round_trips.ensures
     g.K.PartialEq.eq laws.alike (λ m. m.entries) (λ m es. hash_map es (hasher_of m) (spare m)) (λ m es. refl) m r

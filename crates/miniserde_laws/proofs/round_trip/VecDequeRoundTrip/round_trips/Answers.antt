@@ -8,7 +8,7 @@ use Rattle.miniserde_laws.proofs.round_trip.VecDequeRoundTrip.round_trips.Goals 
 
 pub returns : goal.returns
 returns g c =
-    λ q r. round_trips-list g.T.Ranged.real g.T.Serialize.tree g.T.FromJson.means.reads c.round_trips.ensures
+    λ q r. round_trips-list g.T.Ranged.valid g.T.Serialize.tree g.T.FromJson.means.reads c.round_trips.ensures
     (λ q. q.items) deque_with_items
     (λ q ws e. let len : q.len ≡ length ws = q.ok.0 ∙ sym e in take-append-le q.len ws _ (omega arith)
     ∙ take_all q.len ws (omega arith)) q r

@@ -7,5 +7,5 @@ use Rattle.miniserde_laws.proofs.RoundTrips.{round_trips-list}
 use Rattle.miniserde_laws.proofs.round_trip.VecRoundTrip.round_trips.Goals as goal
 
 pub returns : goal.returns
-returns g c = λ v r. round_trips-list g.T.Ranged.real g.T.Serialize.tree g.T.FromJson.means.reads
+returns g c = λ v r. round_trips-list g.T.Ranged.valid g.T.Serialize.tree g.T.FromJson.means.reads
     c.round_trips.ensures (λ v. v.items) with_items (λ v ws e. with_items_is v ws (e ∙ sym v.ok.0)) v r

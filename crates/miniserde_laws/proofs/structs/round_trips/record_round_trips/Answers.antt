@@ -14,7 +14,7 @@ returns g c = λ v r.
     let same = sym (g.met.S.Record.bijective.1 a.0.0) in (
       (
         s.made a.0.0,
-        subst f.real same a.0.1,
+        subst f.valid same a.0.1,
         subst (f.meaning.reads [] s.names (with_names s.names (f.trees (s.values v)))) same a.0.2,
       ),
       λ w q h. ap (λ ts. members (with_names s.names ts)) (a.1 (s.values w) q h),

@@ -4,7 +4,7 @@
 use Rattle.std.proofs.Common.{◌≡◌, None, Some, is_some, option_map, sym, ap, ◌∙◌}
 use Rattle.std.proofs.lemmas.Result.{err_from_is_err_and}
 use Rattle.miniserde_text.specs.Lexer.{event_of_token}
-use Rattle.miniserde_text.specs.private.Moving.{opened_kind}
+use Rattle.miniserde_text.specs.private.Moments.{opened_kind}
 use Rattle.miniserde_value.specs.Builders.{hole_in}
 use Rattle.miniserde_value.specs.Hole.{after_begin}
 use Rattle.miniserde_value.specs.Retained.{retained_tree}

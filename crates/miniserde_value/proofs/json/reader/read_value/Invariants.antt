@@ -2,7 +2,7 @@
 -- shortens the text.
 use Rattle.std.proofs.Common.{◌≡◌, None, is_some, length}
 use Rattle.miniserde_text.specs.Lexer.{event_of_token}
-use Rattle.miniserde_text.specs.private.Moving.{opened_kind}
+use Rattle.miniserde_text.specs.private.Moments.{opened_kind}
 use Rattle.miniserde_value.specs.Builders.{hole_in}
 use Rattle.miniserde_value.specs.Containers.{pending}
 use Rattle.miniserde_value.specs.private.Builds.{Builds, state_before}

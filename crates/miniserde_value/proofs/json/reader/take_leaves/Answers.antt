@@ -5,7 +5,7 @@ use Rattle.std.proofs.lemmas.Result.{err_from_is_err_and}
 use Rattle.miniserde_model.specs.Lexing.{Follows}
 use Rattle.miniserde_text.specs.Lexer.{is_close}
 use Rattle.miniserde_text.proofs.Consumes.{after_ends}
-use Rattle.miniserde_text.proofs.Starting.{start_less}
+use Rattle.miniserde_text.proofs.FirstEvents.{start_less}
 use Rattle.miniserde_read.specs.Events.{EventInRange}
 use Rattle.miniserde_read.proofs.Length.{follows_least}
 use Rattle.miniserde_read.proofs.Tokens.{start_event}

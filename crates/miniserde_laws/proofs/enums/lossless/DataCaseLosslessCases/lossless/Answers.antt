@@ -10,10 +10,10 @@ pub returns-clause-named : goal.returns-clause-named
 returns-clause-named g c = λ tagging names v n o s f r h e.
     let m = g.R.LosslessCases in
     let tree = g.T.Serialize.tree in
-    let real = g.T.Ranged.real in
-    case-named (variant_of_tree tagging) g.T.FromJson.means.content m.meaning.content real (data_tree tagging tree)
+    let valid = g.T.Ranged.valid in
+    case-named (variant_of_tree tagging) g.T.FromJson.means.content m.meaning.content valid (data_tree tagging tree)
     (λ n x r. (Some (tree x), s.0 n x r))
-    (data-same tagging real tree s.0 g.T.FromJson.means.content c.lossless.ensures) m.real (m.tree tagging)
+    (data-same tagging valid tree s.0 g.T.FromJson.means.content c.lossless.ensures) m.valid (m.tree tagging)
     m.meaning.count
     (λ ns w k o. c.lossless-2.ensures.named tagging ns w k o s.1)
     (λ ns v w. c.lossless-2.ensures.same tagging ns v w s.1) names v n o f r h e
@@ -22,9 +22,9 @@ pub returns-clause-same : goal.returns-clause-same
 returns-clause-same g c = λ tagging names v w s f r q e.
     let m = g.R.LosslessCases in
     let tree = g.T.Serialize.tree in
-    let real = g.T.Ranged.real in
-    case-same (variant_of_tree tagging) g.T.FromJson.means.content m.meaning.content real (data_tree tagging tree)
+    let valid = g.T.Ranged.valid in
+    case-same (variant_of_tree tagging) g.T.FromJson.means.content m.meaning.content valid (data_tree tagging tree)
     (λ n x r. (Some (tree x), s.0 n x r))
-    (data-same tagging real tree s.0 g.T.FromJson.means.content c.lossless.ensures) m.real (m.tree tagging)
+    (data-same tagging valid tree s.0 g.T.FromJson.means.content c.lossless.ensures) m.valid (m.tree tagging)
     m.meaning.count
     (λ ns w k o. c.lossless-2.ensures.named tagging ns w k o s.1) (λ ns v w. c.lossless-2.ensures.same tagging ns v w s.1) names v w f r q e

@@ -11,12 +11,12 @@ pub returns-clause-named : goal.returns-clause-named
 returns-clause-named g c = λ tagging names v n o s f r h e.
     let m = g.R.LosslessCases in
     case-named {C = Unit {0}} (variant_of_tree tagging) (λ u. u) m.meaning.content (λ (u : Unit {0}). ⊤)
-    (unit_tree tagging) (λ n x r. (None, s.0 n)) (λ n x y r s e. refl) m.real (m.tree tagging) m.meaning.count
+    (unit_tree tagging) (λ n x r. (None, s.0 n)) (λ n x y r s e. refl) m.valid (m.tree tagging) m.meaning.count
     (λ ns w k o. c.lossless.ensures.named tagging ns w k o s.1) (λ ns v w. c.lossless.ensures.same tagging ns v w s.1) names v n o f r h e
 
 pub returns-clause-same : goal.returns-clause-same
 returns-clause-same g c = λ tagging names v w s f r q e.
     let m = g.R.LosslessCases in
     case-same {C = Unit {0}} (variant_of_tree tagging) (λ u. u) m.meaning.content (λ (u : Unit {0}). ⊤)
-    (unit_tree tagging) (λ n x r. (None, s.0 n)) (λ n x y r s e. refl) m.real (m.tree tagging) m.meaning.count
+    (unit_tree tagging) (λ n x r. (None, s.0 n)) (λ n x y r s e. refl) m.valid (m.tree tagging) m.meaning.count
     (λ ns w k o. c.lossless.ensures.named tagging ns w k o s.1) (λ ns v w. c.lossless.ensures.same tagging ns v w s.1) names v w f r q e

@@ -10,5 +10,5 @@ returns-clause-round_trips g c = λ tagging names v s f r.
     let m = g.R.RoundTripCases in
     let n = m.meaning in
     case-round_trips unit_content UnitReads (λ u. u) unit-agrees n.content_by_name n.reads n.content n.fresh
-    n.agrees tagging _ (unit_tree tagging) (unit-round_trips tagging s.0) m.real (m.tree tagging) n.count
+    n.agrees tagging _ (unit_tree tagging) (unit-round_trips tagging s.0) m.valid (m.tree tagging) n.count
     (λ ns w. c.round_trips.ensures.round_trips tagging ns w s.1) names v f r

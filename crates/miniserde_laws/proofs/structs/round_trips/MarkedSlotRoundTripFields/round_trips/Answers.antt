@@ -11,8 +11,8 @@ returns g c = λ names v f r.
     let s = g.T.Serialize in
     let m = g.R.RoundTripFields in
     let in_turn = round_trips-field g.M.Repeats.once t.means (MissingReads t.means g.M.Mark.given t.absent)
-    g.T.Ranged.real s.tree m.real m.trees m.meaning.count (m.meaning.reads []) c.round_trips.ensures
+    g.T.Ranged.valid s.tree m.valid m.trees m.meaning.count (m.meaning.reads []) c.round_trips.ensures
     c.round_trips-2.ensures names v f r in
     round_trips-alone g.M.Repeats.once g.M.Mark.given t.means t.absent m.meaning
-    (λ v. g.T.Ranged.real v.0 × m.real v.1) (λ v. Some (s.tree v.0) ∷ m.trees v.1) names
+    (λ v. g.T.Ranged.valid v.0 × m.valid v.1) (λ v. Some (s.tree v.0) ∷ m.trees v.1) names
     (Some (s.tree v.0) ∷ m.trees v.1) in_turn

@@ -23,7 +23,7 @@ use denote.Triple.Entry.{alive}
 use denote.Triple.Spec.{Meets, triple_of}
 use denote.Triple.Table.{entered}
 use denote.Triple.Walked.{says, Stays, walk_of, ends_at, walk_Meets}
-use Rattle.miniserde_program.proofs.Walks.{none, none_made}
+use Rattle.miniserde_program.proofs.FieldlessStructs.{none, none_made}
 use Rattle.miniserde_program.specs.contracts.canon.count.Count as Count
 use Rattle.miniserde_program.specs.contracts.canon.count.Count.new as F
 use Rattle.miniserde_program.specs.contracts.canon.count.Count.new.Key.{name as #self}

@@ -16,7 +16,7 @@ loop-key-preserved g c =
     rw (map-append deref_pair c.loop-key.yielded ((c.in-Some.key, c.in-Some.value) ∷ [])) (record {
       names = map_more (λ r. string_bytes r.0) (λ e. g.K.MapKey.text e.0) _ done items inv.names c.in_ok-name.ensures.text;
       trees = map_more (λ r. g.V.Serialize.tree r.1.now) (λ e. g.V.Serialize.tree e.1) _ done items inv.trees refl;
-      real = all_more (λ e. g.K.Ranged.real e.0) done _ inv.real c.name_of.ensures.real;
+      valid = all_more (λ e. g.K.Ranged.valid e.0) done _ inv.valid c.name_of.ensures.valid;
     })
 
 pub returns-clause-ok : goal.returns-clause-ok
@@ -30,6 +30,6 @@ returns-clause-distinct g c =
     let e : map deref_pair c.loop-key.yielded ≡ c.args.table.now.entries = search (rules, iter_end) in
     let inv = c.loop-key.invariant in
     let key = g.met.K.MapKey in
-    rw (inv.names, e) (distinct_names g.K.PartialEq.eq g.K.Ranged.real g.K.MapKey.content g.K.MapKey.code
-    g.K.MapKey.read g.K.MapKey.text key.alike key.back c.args.table.now.entries (rw e at inv.real)
+    rw (inv.names, e) (distinct_names g.K.PartialEq.eq g.K.Ranged.valid g.K.MapKey.content g.K.MapKey.code
+    g.K.MapKey.read g.K.MapKey.text key.alike key.back c.args.table.now.entries (rw e at inv.valid)
     c.into_iter-key-iterator.ensures.into_iter_gives.4)

@@ -9,5 +9,5 @@ abbrev pub invariant-loop-key : goal.invariant-loop-key
 invariant-loop-key g l = record {
   names : map (λ r. string_bytes r.0) l.entries.items ≡ map (λ e. g.K.MapKey.text e.0) (map deref_pair l.yielded);
   trees : map (λ r. g.V.Serialize.tree r.1.now) l.entries.items ≡ map (λ e. g.V.Serialize.tree e.1) (map deref_pair l.yielded);
-  real : AllByRecursion (λ e. g.K.Ranged.real e.0) (map deref_pair l.yielded);
+  valid : AllByRecursion (λ e. g.K.Ranged.valid e.0) (map deref_pair l.yielded);
 }

@@ -2,7 +2,7 @@
 use Rattle.std.proofs.Common.{◌≡◌, drop, arith}
 use Rattle.miniserde_model.specs.Bytes.{is_space}
 use Rattle.miniserde_text.specs.private.Reading.{after_run}
-use Rattle.miniserde_text.proofs.Runs.{blank_of}
+use Rattle.miniserde_text.proofs.ByteRuns.{blank_of}
 use Rattle.miniserde_text.proofs.json.lex.Lexer.skip.Goals as goal
 
 pub returns-clause-space : goal.returns-clause-space

@@ -7,7 +7,7 @@ use Rattle.miniserde_model.specs.Lexing.{BeforeColon}
 use Rattle.miniserde_model.specs.declared.error.Error.TheVariants.{Invalid, Memory}
 use Rattle.miniserde_text.specs.Lexer.{BorrowedIfPlain}
 use Rattle.miniserde_text.specs.private.Reading.{after_run}
-use Rattle.miniserde_text.proofs.Runs.{stands_of}
+use Rattle.miniserde_text.proofs.ByteRuns.{stands_of}
 use Rattle.miniserde_text.proofs.Tokens.{backslash_behind}
 use Rattle.miniserde_text.proofs.Names.{names_of, names_only}
 use Rattle.miniserde_text.proofs.json.lex.Lexer.take_name.Goals as goal

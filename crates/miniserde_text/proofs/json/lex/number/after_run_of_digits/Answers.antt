@@ -2,7 +2,7 @@
 -- (`follows_more`).
 use Rattle.std.proofs.Common.{arith, ◌≡◌, true, get_or}
 use Rattle.miniserde_text.specs.private.Reading.{is_digit}
-use Rattle.miniserde_text.proofs.Runs.{digit_ascii, after_run_more}
+use Rattle.miniserde_text.proofs.ByteRuns.{digit_ascii, after_run_more}
 use Rattle.miniserde_text.proofs.Indices.{follows_more}
 use Rattle.miniserde_text.proofs.json.lex.number.after_run_of_digits.Goals as goal
 

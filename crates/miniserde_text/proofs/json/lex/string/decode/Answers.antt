@@ -7,7 +7,7 @@ use Rattle.std.specs.String.{string_bytes}
 use Rattle.std.proofs.lemmas.Result.{IfOk-weaker}
 use Rattle.miniserde_model.specs.Bytes.{is_special}
 use Rattle.miniserde_text.specs.private.Reading.{before}
-use Rattle.miniserde_text.specs.private.Taking.{SpellsUpToQuote}
+use Rattle.miniserde_text.specs.private.LexerParts.{SpellsUpToQuote}
 use Rattle.miniserde_text.proofs.Indices.{follows_boundary}
 use Rattle.miniserde_text.proofs.Strings.{plain_run, at_backslash}
 use Rattle.miniserde_text.proofs.json.lex.string.decode.Goals as goal

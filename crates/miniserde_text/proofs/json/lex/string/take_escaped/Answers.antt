@@ -3,7 +3,7 @@
 use Rattle.std.proofs.Common.{◌≡◌, ◌∷◌, Err, length, drop, slice_index, sym, ap, subst, arith}
 use Rattle.std.proofs.lemmas.Result.{err_from_is_err_and}
 use Rattle.miniserde_model.specs.declared.error.Error.TheVariants.{Invalid}
-use Rattle.miniserde_text.specs.private.Taking.{SpellsUpToQuote, Adds}
+use Rattle.miniserde_text.specs.private.LexerParts.{SpellsUpToQuote, Adds}
 use Rattle.miniserde_text.proofs.Strings.{adds_nil, adds_then, escape_adds, at_backslash, no_escape, escape_shorter}
 use Rattle.miniserde_text.proofs.Strings.{end_refused, rest_refused, string_of}
 use Rattle.miniserde_text.proofs.json.lex.string.take_escaped.Goals as goal

@@ -2,7 +2,7 @@
 -- `next` (`Adds`). The length of the text from `next` on decreases.
 use Rattle.std.proofs.Common.{◌∷◌, length, drop}
 use Rattle.std.specs.String.{string_bytes}
-use Rattle.miniserde_text.specs.private.Taking.{Adds}
+use Rattle.miniserde_text.specs.private.LexerParts.{Adds}
 use Rattle.miniserde_text.proofs.json.lex.string.take_escaped.Given as goal
 
 abbrev pub invariant-escapes : goal.invariant-escapes

@@ -6,7 +6,7 @@ use Rattle.std.proofs.lemmas.Result.{err_from_is_err_and}
 use Rattle.std.proofs.lemmas.Str.{encodes-append, IsUtf8-drop}
 use Rattle.miniserde_model.specs.declared.error.Error.TheVariants.{Invalid}
 use Rattle.miniserde_text.specs.private.Reading.{after_run, before, is_unescaped, FollowsAscii}
-use Rattle.miniserde_text.specs.private.Taking.{SpellsUpToQuote, PassesCharacters}
+use Rattle.miniserde_text.specs.private.LexerParts.{SpellsUpToQuote, PassesCharacters}
 use Rattle.miniserde_text.proofs.Indices.{follows_boundary}
 use Rattle.miniserde_text.proofs.Strings.{run_of, run_special, quote_ends, no_chars, join_chars, run_refused}
 use Rattle.miniserde_text.proofs.Strings.{run_inside, escaped_inside, reaches_backslash}

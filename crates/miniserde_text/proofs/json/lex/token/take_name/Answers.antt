@@ -8,9 +8,9 @@ use Rattle.miniserde_model.specs.declared.error.Error.TheVariants.{Invalid, Memo
 use Rattle.miniserde_text.specs.Lexer.{BorrowedIfPlain}
 use Rattle.miniserde_model.specs.Bytes.{is_space}
 use Rattle.miniserde_text.specs.private.Reading.{after_run}
-use Rattle.miniserde_text.specs.private.Taking.{SpellsUpToQuote, ReachesBackslash}
+use Rattle.miniserde_text.specs.private.LexerParts.{SpellsUpToQuote, ReachesBackslash}
 use Rattle.miniserde_text.proofs.Tokens.{string_text}
-use Rattle.miniserde_text.proofs.Names.{colon_leads, name_taken, name_quote, name_string, name_colon}
+use Rattle.miniserde_text.proofs.Names.{colon_leads, name_taken, name_quote, no_string-no_name, no_colon-no_name}
 use Rattle.miniserde_text.proofs.json.lex.token.take_name.Goals as goal
 
 pub returns-then-first-ne34-clause-invalid : goal.returns-then-first-ne34-clause-invalid
@@ -24,7 +24,7 @@ returns-in_err-name-clause-invalid g c is n r h =
     let next : drop c.index_after.result c.args.text.now ≡ drop 1 s = grind arith in
     let q = err_from_is_err_and c.from_residual.result c.from_residual.ensures.1 in
     let e : c.in_err-name.field-0.0 ≡ Invalid = cc (q.1, q.2) in
-    name_string s n r h (subst (λ x. (cs r : List ℕ) → SpellsUpToQuote cs x r → ⊥) next (c.in_err-name.ensures.invalid (ap Err e)))
+    no_string-no_name s n r h (subst (λ x. (cs r : List ℕ) → SpellsUpToQuote cs x r → ⊥) next (c.in_err-name.ensures.invalid (ap Err e)))
 
 pub returns-in_err-name-clause-memory : goal.returns-in_err-name-clause-memory
 returns-in_err-name-clause-memory g c is =
@@ -44,7 +44,7 @@ returns-then-byte-ne58-clause-invalid g c is n r h =
     let q = c.in_ok-name.ensures.ok in
     let at : slice_index s 0 ≡ 34 = grind arith in
     let away : slice_index (drop c.after_space-colon.result.0 c.args.text.now) 0 ≢ 58 = λ e. grind arith in
-    name_colon s n r q.0 (drop c.in_ok-name.end c.args.text.now) (drop c.after_space-colon.result.0 c.args.text.now)
+    no_colon-no_name s n r q.0 (drop c.in_ok-name.end c.args.text.now) (drop c.after_space-colon.result.0 c.args.text.now)
     at h (subst (λ x. SpellsUpToQuote q.0 x (drop c.in_ok-name.end c.args.text.now)) next q.1) space away
 
 pub returns-clause-ok : goal.returns-clause-ok

@@ -7,7 +7,7 @@ use Rattle.std.proofs.lemmas.Result.{err_from_is_err_and}
 use Rattle.miniserde_model.specs.declared.error.Error.TheVariants.{Invalid, Memory}
 use Rattle.miniserde_text.specs.Lexer.{event_of_token}
 use Rattle.miniserde_text.specs.private.Reading.{token_at}
-use Rattle.miniserde_text.specs.private.Taking.{SpellsUpToQuote, ReachesBackslash}
+use Rattle.miniserde_text.specs.private.LexerParts.{SpellsUpToQuote, ReachesBackslash}
 use Rattle.miniserde_text.proofs.Tokens.{string_taken, string_refused, front_takes, front_refused, read_text, read_spelled, keeps}
 use Rattle.miniserde_text.proofs.Tokens.{string_text}
 use Rattle.miniserde_text.proofs.json.lex.token.take_token.Goals as goal

@@ -3,7 +3,7 @@
 use Rattle.std.proofs.Common.{[], sym, ap, ◌∙◌, Some, None, is_some, true≢false}
 use Rattle.std.proofs.lemmas.Option.{same_Some}
 use Rattle.miniserde_value.specs.Hole.{in_list}
-use Rattle.miniserde_value.specs.Kinds.{only_list}
+use Rattle.miniserde_value.specs.OnlyContainers.{only_list}
 use Rattle.miniserde_value.proofs.Copies.{array_copied}
 use Rattle.miniserde_value.proofs.json.array.Array.try_clone.Goals as goal
 

@@ -4,7 +4,7 @@ use Rattle.std.proofs.Common.{sym, ap, ◌∙◌, Some, None, is_some, true≢fa
 use Rattle.std.proofs.lemmas.Option.{same_Some}
 use Rattle.miniserde_model.specs.Tree.{no_members}
 use Rattle.miniserde_value.specs.Hole.{in_members}
-use Rattle.miniserde_value.specs.Kinds.{only_members}
+use Rattle.miniserde_value.specs.OnlyContainers.{only_members}
 use Rattle.miniserde_value.proofs.Copies.{object_copied}
 use Rattle.miniserde_value.proofs.json.object.Object.try_clone.Goals as goal
 

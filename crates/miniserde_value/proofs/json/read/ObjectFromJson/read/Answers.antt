@@ -4,7 +4,7 @@ use Rattle.miniserde_model.specs.Tree.{Tree}
 use Rattle.miniserde_text.specs.Lexer.{event_of_token}
 use Rattle.miniserde_read.proofs.Same.{value_same}
 use Rattle.miniserde_value.specs.Retained.{retained_tree}
-use Rattle.miniserde_value.specs.Kinds.{only_members}
+use Rattle.miniserde_value.specs.OnlyContainers.{only_members}
 use Rattle.miniserde_value.specs.Values.{object_content}
 use Rattle.miniserde_value.proofs.Openings.{no_members}
 use Rattle.miniserde_value.proofs.json.read.ObjectFromJson.read.Goals as goal

@@ -1,6 +1,6 @@
 -- A run without a special byte is written as it is (`escapes_all`).
 use Rattle.std.proofs.Common.{◌++◌, ◌∙◌, ap, sym, string_bytes}
-use Rattle.miniserde_text.proofs.Escaping.{escapes_all}
+use Rattle.miniserde_text.proofs.EscapeRule.{escapes_all}
 use Rattle.miniserde_text.proofs.json.lex.spelling.EscapedSpelling.push_run.Goals as goal
 
 pub returns-clause-ok : goal.returns-clause-ok

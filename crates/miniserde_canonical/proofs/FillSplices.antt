@@ -11,9 +11,9 @@ use Rattle.std.proofs.lemmas.List.{take-append-drop, length-take-le, length-drop
 use Rattle.miniserde_canonical.specs.declared.spread.Span.{Span}
 use Rattle.miniserde_canonical.specs.declared.spread.Splice.{Splice}
 use Rattle.miniserde_canonical.specs.declared.spread.SplicedText.{SplicedText}
-use Rattle.miniserde_canonical.specs.private.Spreads.{part_between, bytes_in, splices_in, Holds, FilledText, Ordered}
-use Rattle.miniserde_canonical.specs.private.Waiting.{SpanHolds, SpansHold, span_measure, spans_measure}
-use Rattle.miniserde_canonical.proofs.Spreads.{between_mid, between_end, between_none, plain_text, at_splice}
+use Rattle.miniserde_canonical.specs.private.SplicedTexts.{part_between, bytes_in, splices_in, Holds, FilledText, Ordered}
+use Rattle.miniserde_canonical.specs.private.WaitingSpans.{SpanHolds, SpansHold, span_measure, spans_measure}
+use Rattle.miniserde_canonical.proofs.SplicedTexts.{between_mid, between_end, between_none, plain_text, at_splice}
 
 -- ---- spans that wait
 
@@ -180,9 +180,9 @@ ordered_at n i [] d o l = absurd (omega (arith, l))
 ordered_at n zero (h ∷ gs) d o l = omega (arith, o.0)
 ordered_at n (suc i) (h ∷ gs) d o l = omega (arith, ordered_at (suc n) i gs d o.1 (omega (arith, l)))
 
-loads_push : (ps : List Span) (q : Span) → spans_measure (ps ++ q ∷ []) ≡ spans_measure ps + span_measure q
-loads_push [] q = omega arith
-loads_push (p ∷ ps) q = omega (arith, loads_push ps q)
+measure_push : (ps : List Span) (q : Span) → spans_measure (ps ++ q ∷ []) ≡ spans_measure ps + span_measure q
+measure_push [] q = omega arith
+measure_push (p ∷ ps) q = omega (arith, measure_push ps q)
 
 twice : (n : ℕ) → 2 ^ (1 + (n + 1)) ≡ 2 * 2 ^ (1 + n)
 twice n = let next : 1 + (n + 1) ≡ suc (1 + n) = omega arith in ap (λ z. 2 ^ z) next ∙ pow-suc 2 (1 + n) ∙ omega arith
@@ -209,8 +209,8 @@ less_splice {gs = gs} {p = p} {splice = splice} later {mid = mid} {later' = late
     let high : 2 ≤ 2 ^ (1 + a) = omega (arith, least, two) in
     let double : 2 ^ (1 + (a + 1)) ≡ 2 * 2 ^ (1 + a) = twice a in
     let all : spans_measure later' ≡ (spans_measure later + span_measure q) + span_measure splice.group =
-    ap spans_measure k ∙ loads_push mid splice.group ∙ ap (λ z. spans_measure z + span_measure splice.group) j
-    ∙ ap (λ z. z + span_measure splice.group) (loads_push later q) in
+    ap spans_measure k ∙ measure_push mid splice.group ∙ ap (λ z. spans_measure z + span_measure splice.group) j
+    ∙ ap (λ z. z + span_measure splice.group) (measure_push later q) in
     let rest : span_measure q ≡ 1 + (2 ^ (1 + b) - 2 ^ (1 + (a + 1))) = refl in
     omega (arith, all, rest, group, up, one, two, high, double)
 
@@ -236,7 +236,7 @@ group_goes ms gs p q start old popped new e o f g = λ x s.
 -- spans measure less than before the pop if they measure less than the popped span and the others
 pub group_less : (q : Span) (later rest later' : List Span) → later ≡ rest ++ q ∷ []
     → spans_measure later' < spans_measure rest + span_measure q → spans_measure later' < spans_measure later
-group_less q later rest later' e h = omega (arith, h, ap spans_measure e ∙ loads_push rest q)
+group_less q later rest later' e h = omega (arith, h, ap spans_measure e ∙ measure_push rest q)
 
 -- ---- a whole text
 

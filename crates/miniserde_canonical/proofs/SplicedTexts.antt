@@ -6,9 +6,9 @@ use Rattle.std.proofs.Math.Seq.{take-append_seam, drop-append_seam}
 use Rattle.std.proofs.lemmas.List.{take-append-le, drop-append-le, length-drop, take_all, drop_all}
 use Rattle.miniserde_canonical.specs.declared.spread.Span.{Span}
 use Rattle.miniserde_canonical.specs.declared.spread.Splice.{Splice}
-use Rattle.miniserde_canonical.specs.private.Spreads.{part_between, Within, bytes_in, splices_in, shifted_splice}
-use Rattle.miniserde_canonical.specs.private.Spreads.{Holds, none, byte, splice, Ordered, AllBefore}
-use Rattle.miniserde_canonical.specs.private.Waiting.{SpanHolds}
+use Rattle.miniserde_canonical.specs.private.SplicedTexts.{part_between, Within, bytes_in, splices_in, shifted_splice}
+use Rattle.miniserde_canonical.specs.private.SplicedTexts.{Holds, none, byte, splice, Ordered, AllBefore}
+use Rattle.miniserde_canonical.specs.private.WaitingSpans.{SpanHolds}
 
 -- ---- between two points
 

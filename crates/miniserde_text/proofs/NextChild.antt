@@ -5,9 +5,9 @@ use Rattle.miniserde_model.specs.Bytes.{StopsAt, is_space}
 use Rattle.miniserde_model.specs.Lexing.{Stands, closing, Begins, Follows}
 use Rattle.miniserde_model.specs.declared.kind.Kind.{Kind}
 use Rattle.miniserde_model.specs.declared.kind.Kind.TheVariants.{Seq, Map}
-use Rattle.miniserde_model.proofs.Runs.{same_run}
+use Rattle.miniserde_model.proofs.LongestRuns.{same_run}
 use Rattle.miniserde_model.proofs.Prefixes.{whitespace_passes}
-use Rattle.miniserde_text.proofs.Starting.{same_first, first_byte, begins_first, same_byte}
+use Rattle.miniserde_text.proofs.FirstEvents.{same_first, first_byte, begins_first, same_byte}
 
 -- if s has the empty part after whitespace, s is that whitespace and then r
 pub bare : (s r : List ℕ) (p : Stands (λ b. b ≡ []) s r) → s ≡ p.space ++ r

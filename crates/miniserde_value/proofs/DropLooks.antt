@@ -71,22 +71,23 @@ not_nil [] y e = cc
 not_nil (x ∷ xs) y e = cc
 
 -- the value in hand was let go, and the next is taken from the current one
-pub turn_next : (c h d last : Value) → IsBare h → children c ≡ children d ++ last ∷ [] → looks_left c h ≡ suc (looks_left d last)
-turn_next c h d last b e =
+pub looks_next : (c h d last : Value) → IsBare h → children c ≡ children d ++ last ∷ [] → looks_left c h ≡ suc (looks_left d last)
+looks_next c h d last b e =
     let full : IsBare c → ⊥ = λ n. not_nil (children d) last (sym e ∙ n) in
     omega (arith, left_full c h full, bare_beside h b, taken_looks c d last e)
 
 -- the current one was let go, and the next is taken from the one in hand
-pub turn_over : (c h d last : Value) → IsBare c → children h ≡ children d ++ last ∷ [] → looks_left c h ≡ suc (looks_left d last)
-turn_over c h d last b e = omega (arith, left_bare c h b, taken_looks h d last e)
+pub looks_over : (c h d last : Value) → IsBare c → children h ≡ children d ++ last ∷ [] → looks_left c h ≡ suc (looks_left d last)
+looks_over c h d last b e = omega (arith, left_bare c h b, taken_looks h d last e)
 
 -- the current one was replaced in the one in hand
-pub turn_park : (c h d x : Value) → (IsBare c → ⊥) → ReplacesFirst c x (children h) (children d) → looks_left c h ≡ suc (looks_left d x)
-turn_park c h d x n r = omega (arith, left_full c h n, parked_looks c x h d r)
+pub looks_replaced : (c h d x : Value) → (IsBare c → ⊥) → ReplacesFirst c x (children h) (children d)
+    → looks_left c h ≡ suc (looks_left d x)
+looks_replaced c h d x n r = omega (arith, left_full c h n, parked_looks c x h d r)
 
 -- both were let go
-pub turn_last : (c h : Value) → IsBare c → IsBare h → looks_left c h ≡ 0
-turn_last c h b e = omega (arith, left_bare c h b, bare_alone h e)
+pub looks_end : (c h : Value) → IsBare c → IsBare h → looks_left c h ≡ 0
+looks_end c h b e = omega (arith, left_bare c h b, bare_alone h e)
 
 -- `false` is not true
 pub false_true : IsTrue false → ⊥

@@ -12,17 +12,17 @@ use Rattle.miniserde_canonical.specs.declared.spread.Span.{Span}
 use Rattle.miniserde_canonical.specs.declared.spread.Splice.{Splice}
 use Rattle.miniserde_canonical.specs.declared.spread.SplicedText.{SplicedText}
 use Rattle.miniserde_canonical.specs.declared.member.Member.{Member}
-use Rattle.miniserde_canonical.specs.private.Spreads.{Within, bytes_in, splices_in, shifted_splice, Holds, none, Ordered, AllBefore}
-use Rattle.miniserde_canonical.specs.private.Waiting.{SpanHolds}
+use Rattle.miniserde_canonical.specs.private.SplicedTexts.{Within, bytes_in, splices_in, shifted_splice, Holds, none, Ordered, AllBefore}
+use Rattle.miniserde_canonical.specs.private.WaitingSpans.{SpanHolds}
 use Rattle.miniserde_canonical.specs.private.Members.{name_in, begin_of, end_of, members_at, begins_with_name, without_repeats}
-use Rattle.miniserde_canonical.specs.private.Arranging.{comma_before, Entry, entry_members, members_text, count}
-use Rattle.miniserde_canonical.specs.private.Sorting.{EndsWithMembers, text_at, own_text_tree, IsEnd, Gains, PutsMember}
-use Rattle.miniserde_canonical.specs.private.Sorting.{PutsMembers, texts, PutAt, PutsBack, SortsMembers}
-use Rattle.miniserde_canonical.proofs.Spreads.{between_end, between_none, holds_plain, plain_text, holds_append}
-use Rattle.miniserde_canonical.proofs.Spreads.{holds_behind, holds_moved, group_holds, splice_holds, all_more}
-use Rattle.miniserde_canonical.proofs.Spreads.{all_append, all_take, all_between, all_moved, ordered_gains}
+use Rattle.miniserde_canonical.specs.private.States.{comma_before, MemberEntry, entry_members, members_text, count}
+use Rattle.miniserde_canonical.specs.private.SortMembers.{EndsWithMembers, text_at, own_text_tree, IsEnd, Gains, PutsMember}
+use Rattle.miniserde_canonical.specs.private.SortMembers.{PutsMembers, texts, PutAt, PutsBack, SortsMembers}
+use Rattle.miniserde_canonical.proofs.SplicedTexts.{between_end, between_none, holds_plain, plain_text, holds_append}
+use Rattle.miniserde_canonical.proofs.SplicedTexts.{holds_behind, holds_moved, group_holds, splice_holds, all_more}
+use Rattle.miniserde_canonical.proofs.SplicedTexts.{all_append, all_take, all_between, all_moved, ordered_gains}
 use Rattle.miniserde_canonical.proofs.MemberLists.{kept_skip, kept_take, InNameOrder, kept_normal, ended_count}
-use Rattle.miniserde_canonical.proofs.Owning.{HoldsBetween, own_span, own_agrees}
+use Rattle.miniserde_canonical.proofs.MemberSpans.{HoldsBetween, own_span, own_agrees}
 
 -- ---- one member
 
@@ -105,7 +105,7 @@ gains_append {a = a} {b = b} {y = y} g h =
 
 -- behind k members of the order, of which some were put
 pub record PutsSoFar (ns : List Member) (order : List ℕ) (out groups groups' : SplicedText) (k n : ℕ) : Type 0 where
-  pub so_far : (es : List Entry) (last : List ℕ) (base : SplicedText) → EndsWithMembers ns es base out last
+  pub so_far : (es : List MemberEntry) (last : List ℕ) (base : SplicedText) → EndsWithMembers ns es base out last
       → (x : List ℕ) × Gains base out groups groups' x
       × (x ++ members_text (nat_eq n 0) (without_repeats (members_at ns (own_text_tree es last) (drop k order)))
       ≡ members_text true (without_repeats (members_at ns (own_text_tree es last) order)))
@@ -113,15 +113,15 @@ pub record PutsSoFar (ns : List Member) (order : List ℕ) (out groups groups' :
       ≡ count (without_repeats (members_at ns (own_text_tree es last) order)))
 
 -- before the first member of the order nothing is put, and the groups are as they were
-pub gather_begin : (ns : List Member) (order : List ℕ) (out groups : SplicedText) → PutsSoFar ns order out groups groups 0 0
-gather_begin ns order out groups = record { so_far = λ es last base own. ([], gains_none base out groups, refl, omega arith) }
+pub put_members_begins : (ns : List Member) (order : List ℕ) (out groups : SplicedText) → PutsSoFar ns order out groups groups 0 0
+put_members_begins ns order out groups = record { so_far = λ es last base own. ([], gains_none base out groups, refl, omega arith) }
 
 -- a member whose name the next one in the order has is not put
-pub gather_skip : {ns : List Member} {order : List ℕ} {out groups groups' : SplicedText} {k n : ℕ} (d : ℕ)
+pub put_members_skips : {ns : List Member} {order : List ℕ} {out groups groups' : SplicedText} {k n : ℕ} (d : ℕ)
     → k < length order → ((r : ℕ → Tree)
     → begins_with_name (name_in ns (get_or order k d)) (members_at ns r (drop (k + 1) order)) ≡ true)
     → PutsSoFar ns order out groups groups' k n → PutsSoFar ns order out groups groups' (k + 1) n
-gather_skip {ns = ns} {order = order} {k = k} {n = n} d l h g = record {
+put_members_skips {ns = ns} {order = order} {k = k} {n = n} d l h g = record {
   so_far = λ es last base own.
       let r = own_text_tree es last in
       let t = g.so_far es last base own in
@@ -131,12 +131,12 @@ gather_skip {ns = ns} {order = order} {k = k} {n = n} d l h g = record {
 }
 
 -- a member whose name the next one in the order does not have is put, and n counts it
-pub gather_take : {ns : List Member} {order : List ℕ} {out groups mid groups' : SplicedText} {k n : ℕ} (d : ℕ)
+pub put_members_takes : {ns : List Member} {order : List ℕ} {out groups mid groups' : SplicedText} {k n : ℕ} (d : ℕ)
     → k < length order → ((r : ℕ → Tree)
     → begins_with_name (name_in ns (get_or order k d)) (members_at ns r (drop (k + 1) order)) ≡ false)
     → PutsMember ns (get_or order k d) (nat_eq n 0) out mid groups' → PutsSoFar ns order out groups mid k n
     → PutsSoFar ns order out groups groups' (k + 1) (n + 1)
-gather_take {ns = ns} {order = order} {k = k} {n = n} d l h p g = record {
+put_members_takes {ns = ns} {order = order} {k = k} {n = n} d l h p g = record {
   so_far = λ es last base own.
       let r = own_text_tree es last in
       let i = get_or order k d in
@@ -163,9 +163,9 @@ gather_take {ns = ns} {order = order} {k = k} {n = n} d l h p g = record {
     rejoin a x y z = simp append_assoc refl
 
 -- at the end of the order, the groups have the members without repeats, and n is their number
-pub gather_end : {ns : List Member} {order : List ℕ} {out groups groups' : SplicedText} {k n : ℕ} → drop k order ≡ []
+pub put_members_ends : {ns : List Member} {order : List ℕ} {out groups groups' : SplicedText} {k n : ℕ} → drop k order ≡ []
     → PutsSoFar ns order out groups groups' k n → PutsMembers ns order out groups groups' n
-gather_end {ns = ns} {order = order} {out = out} {groups = groups} {groups' = groups'} {n = n} e g = λ es last base own.
+put_members_ends {ns = ns} {order = order} {out = out} {groups = groups} {groups' = groups'} {n = n} e g = λ es last base own.
     let t = g.so_far es last base own in
     let r = own_text_tree es last in
     let text : t.0 ≡ members_text true (without_repeats (members_at ns r order)) =
@@ -284,7 +284,7 @@ first_point : (ns : List Member) (d : Member) → 0 < length ns → (get_or ns 0
 first_point [] d l = absurd (omega (arith, l))
 first_point (n ∷ ns) d l = refl
 
-own_within : (ns : List Member) (es : List Entry) (groups out : SplicedText) (last : List ℕ)
+own_within : (ns : List Member) (es : List MemberEntry) (groups out : SplicedText) (last : List ℕ)
     → EndsWithMembers ns es groups out last
     → (begin_of ns (record { bytes = 0; splices = 0 })).bytes ≤ length out.bytes.items
 own_within [] [] groups out last o = omega arith

@@ -4,11 +4,11 @@ use Rattle.std.proofs.Common.{rules, ◌≡◌, ◌+◌, length, [], ◌∷◌, 
 use Rattle.miniserde_model.specs.Compact.{string_text}
 use Rattle.miniserde_text.specs.Lexer.{text_of}
 use Rattle.miniserde_canonical.specs.declared.spread.Point.{Point}
-use Rattle.miniserde_canonical.specs.private.Names.{name_of}
-use Rattle.miniserde_canonical.specs.private.Arranging.{comma_before}
-use Rattle.miniserde_canonical.proofs.Drafting.{keep_holding, holding_begun}
-use Rattle.miniserde_canonical.proofs.Running.{run_length}
-use Rattle.miniserde_canonical.proofs.draft.Draft.name.Goals as goal
+use Rattle.miniserde_canonical.specs.private.MemberNames.{name_of}
+use Rattle.miniserde_canonical.specs.private.States.{comma_before}
+use Rattle.miniserde_canonical.proofs.DraftSteps.{keep_holding, holding_begun}
+use Rattle.miniserde_canonical.proofs.InputRuns.{run_length}
+use Rattle.miniserde_canonical.proofs.draft.Draft.add_member.Goals as goal
 
 pub returns : goal.returns
 returns c = λ rest part rest' before s s' t h e f g p i a.

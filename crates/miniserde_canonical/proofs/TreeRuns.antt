@@ -13,9 +13,9 @@ use Rattle.miniserde_model.specs.Distinct.{names_distinct, names_distinct_in_chi
 use Rattle.miniserde_model.specs.Normal.{norm, norm_children, norm_members, with_if_absent, with_if_absent_by, text_cmp, BeginsAbove, Rise}
 use Rattle.miniserde_canonical.specs.CanonicalToken.{CanonicalToken, leaf, name, array_end, object, object_end}
 use Rattle.miniserde_canonical.specs.CanonicalToken.{tokens, child_tokens, member_tokens}
-use Rattle.miniserde_canonical.specs.private.Arranging.{comma_before, Entry, State, start, text_before}
-use Rattle.miniserde_canonical.specs.private.Arranging.{entry_members, members_text, entries_text, count, once_each}
-use Rattle.miniserde_canonical.specs.private.Arranging.{Arranged, Closes, TokenStep, TokenSteps}
+use Rattle.miniserde_canonical.specs.private.States.{comma_before, MemberEntry, State, start, text_before}
+use Rattle.miniserde_canonical.specs.private.States.{entry_members, members_text, entries_text, count, once_each}
+use Rattle.miniserde_canonical.specs.private.States.{Arranged, Closes, TokenStep, TokenSteps}
 use Rattle.miniserde_canonical.proofs.Repeats.{nested_names_distinct, distinct_counted}
 
 -- ---- runs
@@ -69,7 +69,7 @@ rows_of no_members = no_members
 rows_of (member n t ms) = member n (str (row n t)) (rows_of ms)
 
 -- from a text on, the first of its container or not, up to a last text
-abbrev Lays : List Entry → Members → List ℕ → Bool → List ℕ → Type 0
+abbrev Lays : List MemberEntry → Members → List ℕ → Bool → List ℕ → Type 0
 Lays [] no_members l f last = last ≡ l
 Lays (e ∷ es) (member n t ms) l f last = (e.earlier_text ≡ l) × (e.first ≡ f) × (e.name ≡ n) × Lays es ms (row n (norm t)) false last
 Lays _ _ l f last = ⊥
@@ -77,7 +77,7 @@ Lays _ _ l f last = ⊥
 -- From s to s' the members ms of an open object are added: their entries and texts, and whether the names in each value
 -- are distinct. The object's own names count when it closes.
 record Lines (s s' : State) (ms : Members) : Type 0 where
-  pub added : List Entry
+  pub added : List MemberEntry
   pub entries : s'.entries ≡ s.entries ++ added
   pub opened : s'.opened ≡ s.opened
   pub distinct : s'.distinct ≡ (s.distinct && nested_names_distinct ms)
@@ -97,7 +97,7 @@ lines_none s s' e = subst (λ z. Lines s z no_members) e
 lines_cons : (n : List ℕ) (t : Tree) (ms : Members) (s m u s' : State) → TokenStep (name n) s m
     → Grows m u (compact (norm t)) (names_distinct t) → u.first ≡ false → Lines u s' ms → Lines s s' (member n t ms)
 lines_cons n t ms s m u s' a g f l =
-    let e : Entry = record { earlier_text = s.last; first = s.first; name = n } in
+    let e : MemberEntry = record { earlier_text = s.last; first = s.first; name = n } in
     let text : u.last ≡ row n (norm t) = g.last ∙ ap (λ z. z ++ compact (norm t)) a.1 ∙ append_assoc (string_text n)
     (58 ∷ []) (compact (norm t)) in
     record {
@@ -115,13 +115,13 @@ lines_cons n t ms s m u s' a g f l =
       );
     }
 
-lays_next : (es : List Entry) (ms : Members) (l : List ℕ) (f : Bool) (last : List ℕ) → Lays es ms l f last → text_before es last ≡ l
+lays_next : (es : List MemberEntry) (ms : Members) (l : List ℕ) (f : Bool) (last : List ℕ) → Lays es ms l f last → text_before es last ≡ l
 lays_next [] no_members l f last h = h
 lays_next (e ∷ es) (member n t ms) l f last h = h.0
 lays_next [] (member n t ms) l f last h = absurd h
 lays_next (e ∷ es) no_members l f last h = absurd h
 
-lays_ended : (es : List Entry) (ms : Members) (l : List ℕ) (f : Bool) (last : List ℕ) → Lays es ms l f last
+lays_ended : (es : List MemberEntry) (ms : Members) (l : List ℕ) (f : Bool) (last : List ℕ) → Lays es ms l f last
     → entry_members es last ≡ rows_of (mapped ms)
 lays_ended [] no_members l f last h = refl
 lays_ended (e ∷ es) (member n t ms) l f last h =
@@ -131,7 +131,7 @@ lays_ended (e ∷ es) (member n t ms) l f last h =
 lays_ended [] (member n t ms) l f last h = absurd h
 lays_ended (e ∷ es) no_members l f last h = absurd h
 
-lays_whole : (es : List Entry) (ms : Members) (l : List ℕ) (f : Bool) (last : List ℕ) → Lays es ms l f last
+lays_whole : (es : List MemberEntry) (ms : Members) (l : List ℕ) (f : Bool) (last : List ℕ) → Lays es ms l f last
     → entries_text es last ≡ l ++ members_text f (rows_of (mapped ms))
 lays_whole [] no_members l f last h = h ∙ sym (append-nil l)
 lays_whole (e ∷ es) (member n t ms) l f last h =
@@ -197,7 +197,7 @@ record Made (s s' : State) (l : List ℕ) (ms : Members) : Type 0 where
   pub last : s'.last ≡ l ++ compact_members (norm_members ms)
   pub distinct : s'.distinct ≡ (s.distinct && nat_eq (count (norm_members ms)) (count ms))
 
-made_same : (es : List Entry) (ms : Members) (l : List ℕ) (s s' : State) → Lays es ms l true s.last
+made_same : (es : List MemberEntry) (ms : Members) (l : List ℕ) (s s' : State) → Lays es ms l true s.last
     → Rise (entry_members es s.last) → s'.last ≡ entries_text es s.last → s'.distinct ≡ s.distinct → Made s s' l ms
 made_same es ms l s s' h r e d =
     let n : norm_members ms ≡ mapped ms = rise_norm ms (rows_rise (mapped ms) (subst Rise (lays_ended es ms l true s.last h) r)) in
@@ -207,7 +207,7 @@ made_same es ms l s s' h r e d =
       distinct = d ∙ sym (and-true s.distinct) ∙ ap (λ z. s.distinct && z) (sym same);
     }
 
-made_sorted : (e : Entry) (es : List Entry) (ms : Members) (l : List ℕ) (s s' : State)
+made_sorted : (e : MemberEntry) (es : List MemberEntry) (ms : Members) (l : List ℕ) (s s' : State)
     → Lays (e ∷ es) ms l true s.last
     → s'.last ≡ e.earlier_text ++ (comma_before e.first ++ members_text true (norm_members (entry_members (e ∷ es) s.last)))
     → s'.distinct ≡ (s.distinct && once_each (entry_members (e ∷ es) s.last)) → Made s s' l ms
@@ -227,7 +227,7 @@ made_sorted e es (member n t ms) l s s' h p d =
       distinct = d ∙ ap₂ (λ (x y : ℕ). s.distinct && nat_eq x y) kept many;
     }
 
-made : (es : List Entry) (ms : Members) (l : List ℕ) (s s' : State) → Lays es ms l true s.last → Arranged es s s' → Made s s' l ms
+made : (es : List MemberEntry) (ms : Members) (l : List ℕ) (s s' : State) → Lays es ms l true s.last → Arranged es s s' → Made s s' l ms
 made es ms l s s' h (inl a) = made_same es ms l s s' h a.0 a.1 a.2
 made (e ∷ es) ms l s s' h (inr a) = made_sorted e es ms l s s' h a.0 a.1
 made [] ms l s s' h (inr a) = absurd a

@@ -16,12 +16,12 @@ use Rattle.miniserde_text.specs.declared.json.lex.Event.TheVariants as event
 use Rattle.miniserde_text.specs.declared.json.lex.Text.{Text}
 use Rattle.miniserde_text.specs.declared.json.lex.Text.TheVariants.{Input, Scratch}
 use Rattle.miniserde_canonical.specs.declared.draft.Draft.{Draft}
-use Rattle.miniserde_canonical.specs.private.Moving.{first_token}
+use Rattle.miniserde_canonical.specs.private.EventTokens.{first_token}
 use Rattle.miniserde_canonical.specs.private.Plain.{TextSpelled, SpellsToken}
-use Rattle.miniserde_canonical.specs.private.Arranging.{State, TokenStep, Adds}
-use Rattle.miniserde_canonical.specs.private.Spreads.{part_between}
+use Rattle.miniserde_canonical.specs.private.States.{State, TokenStep, AddsBytes}
+use Rattle.miniserde_canonical.specs.private.SplicedTexts.{part_between}
 use Rattle.miniserde_canonical.specs.private.Drafts.{Wrote}
-use Rattle.miniserde_canonical.proofs.Spreads.{between_mid}
+use Rattle.miniserde_canonical.proofs.SplicedTexts.{between_mid}
 
 -- the run goes on
 pub wrote_on : {d : Draft} {rest bs : List ℕ} (part rest' : List ℕ) → Wrote d rest bs → rest ≡ part ++ rest' → Wrote d rest' (bs ++ part)
@@ -92,14 +92,14 @@ as_negative (negsuc k) part p n = sym (neg_text part (negsuc k) p)
 -- the step of a token other than a string, a number with a minus or `{` appends the bytes of the token
 pub as_it_is : (e : Event) (scratch part : List ℕ) (s s' : State) → SpellsToken e scratch part
     → ((z : ℤ) → e ≡ event.Negative z → ⊥) → ((t : Text) → e ≡ event.Str t → ⊥) → (e ≡ event.MapStart → ⊥)
-    → TokenStep (first_token (event_of_token e scratch)) s s' → Adds part s s'
-as_it_is event.Null scratch part s s' p n m o h = subst (λ z. Adds z s s') (sym p.0) h.0
-as_it_is (event.Bool b) scratch part s s' p n m o h = subst (λ z. Adds z s s') (sym p.0) h.0
+    → TokenStep (first_token (event_of_token e scratch)) s s' → AddsBytes part s s'
+as_it_is event.Null scratch part s s' p n m o h = subst (λ z. AddsBytes z s s') (sym p.0) h.0
+as_it_is (event.Bool b) scratch part s s' p n m o h = subst (λ z. AddsBytes z s s') (sym p.0) h.0
 as_it_is (event.Negative z) scratch part s s' p n m o h = absurd (n z refl)
-as_it_is (event.Nonnegative k) scratch part s s' p n m o h = subst (λ z. Adds z s s') (nonneg_text part k p.0) h.0
-as_it_is (event.Number x) scratch part s s' p n m o h = subst (λ z. Adds z s s') (sym (tells part (num x.now) p.0)) h.0
+as_it_is (event.Nonnegative k) scratch part s s' p n m o h = subst (λ z. AddsBytes z s s') (nonneg_text part k p.0) h.0
+as_it_is (event.Number x) scratch part s s' p n m o h = subst (λ z. AddsBytes z s s') (sym (tells part (num x.now) p.0)) h.0
 as_it_is (event.Str t) scratch part s s' p n m o h = absurd (m t refl)
-as_it_is event.SeqStart scratch part s s' p n m o h = subst (λ z. Adds z s s') (sym p.0) h.0
+as_it_is event.SeqStart scratch part s s' p n m o h = subst (λ z. AddsBytes z s s') (sym p.0) h.0
 as_it_is event.MapStart scratch part s s' p n m o h = absurd (o refl)
 
 -- where the run would end
@@ -110,8 +110,8 @@ run_length {d = d} {rest = rest} at point w e f =
 
 -- the step of a string that is borrowed appends its bytes in the input
 pub string_stands : (t : Text) (scratch part : List ℕ) (s s' : State) → (t ≡ Scratch → ⊥) → TextSpelled t part
-    → Adds (string_text (text_of t scratch)) s s' → Adds part s s'
-string_stands (Input x) scratch part s s' n p a = subst (λ z. Adds z s s') (sym p) a
+    → AddsBytes (string_text (text_of t scratch)) s s' → AddsBytes part s s'
+string_stands (Input x) scratch part s s' n p a = subst (λ z. AddsBytes z s s') (sym p) a
 string_stands Scratch scratch part s s' n p a = absurd (n refl)
 
 -- the decimal text of 0 is `0`

@@ -8,15 +8,16 @@ use Rattle.miniserde_canonical.specs.declared.spread.Point.{Point}
 use Rattle.miniserde_canonical.specs.declared.spread.Splice.{Splice}
 use Rattle.miniserde_canonical.specs.declared.spread.SplicedText.{SplicedText}
 use Rattle.miniserde_canonical.specs.declared.member.Member.{Member}
-use Rattle.miniserde_canonical.specs.private.Spreads.{Holds, AllBefore, SplicesInOrder}
-use Rattle.miniserde_canonical.specs.private.Names.{name_of}
+use Rattle.miniserde_canonical.specs.private.SplicedTexts.{Holds, AllBefore, SplicesInOrder}
+use Rattle.miniserde_canonical.specs.private.MemberNames.{name_of}
 use Rattle.miniserde_canonical.specs.private.Members.{begin_of, members_at, without_repeats}
-use Rattle.miniserde_canonical.specs.private.Arranging.{Entry, text_before, entry_members, comma_before, members_text, count, once_each}
+use Rattle.miniserde_canonical.specs.private.States.{MemberEntry, text_before, entry_members, comma_before, members_text, count, once_each}
 
 -- The member n, which stands for the entry e, splits a text at the comma before it, or where it begins if it is the
 -- first of its object. B holds of the bytes and the splices before that point, and K of those from the member on. The
 -- bytes bs have indices from `at` on, and the splices hs from k on.
-pub record Seam (B K : List ℕ → List Splice → Type 0) (n : Member) (e : Entry) (at k : ℕ) (bs : List ℕ) (hs : List Splice) : Type 0 where
+pub record Seam (B K : List ℕ → List Splice → Type 0) (n : Member) (e : MemberEntry) (at k : ℕ) (bs : List ℕ) (hs : List Splice) :
+    Type 0 where
   pub before : List ℕ
   pub behind : List ℕ
   pub splices_before : List Splice
@@ -32,7 +33,7 @@ pub record Seam (B K : List ℕ → List Splice → Type 0) (n : Member) (e : En
 
 -- The bytes bs, with indices from `at` on, and the splices hs, with indices from k on, hold the
 -- text before each of the entries es, for which the members ns stand, and then the text `last`.
-abbrev pub Chain : List Member → List Entry → List ℕ → List Splice → ℕ → ℕ → List ℕ → List Splice → List ℕ → Type 0
+abbrev pub Chain : List Member → List MemberEntry → List ℕ → List Splice → ℕ → ℕ → List ℕ → List Splice → List ℕ → Type 0
 Chain [] [] ms gs at k bs hs last = Holds ms gs at bs hs last
 Chain (n ∷ ns) (e ∷ es) ms gs at k bs hs last =
     Seam (λ b h. Holds ms gs at b h e.earlier_text) (λ c g. Chain ns es ms gs n.point.bytes n.point.splices c g last) n e at k bs hs
@@ -42,7 +43,7 @@ Chain _ _ ms gs at k bs hs last = ⊥
 
 -- over the groups, the text `out` ends with the texts of the entries e and es, for which the members n and ns stand; the
 -- last one's text is `last`
-pub record EndsWithMembersFrom (n : Member) (ns : List Member) (e : Entry) (es : List Entry) (groups out : SplicedText)
+pub record EndsWithMembersFrom (n : Member) (ns : List Member) (e : MemberEntry) (es : List MemberEntry) (groups out : SplicedText)
     (last : List ℕ) : Type 0 where
   pub front : List ℕ
   pub inside : List ℕ
@@ -57,21 +58,21 @@ pub record EndsWithMembersFrom (n : Member) (ns : List Member) (e : Entry) (es :
 
 -- over the groups, the text `out` ends with the texts of the entries es, for which the members ns stand, the last one's
 -- being `last`; without members it is any text
-abbrev pub EndsWithMembers : List Member → List Entry → SplicedText → SplicedText → List ℕ → Type 0
+abbrev pub EndsWithMembers : List Member → List MemberEntry → SplicedText → SplicedText → List ℕ → Type 0
 EndsWithMembers [] [] groups out last = ⊤
 EndsWithMembers (n ∷ ns) (e ∷ es) groups out last = EndsWithMembersFrom n ns e es groups out last
 EndsWithMembers _ _ groups out last = ⊥
 
 -- the first entry's own text, from its name to before the next comma: the next entry has it as the text before it, and
 -- of the last one it is `last`; empty without entries
-abbrev pub text_at : List Entry → List ℕ → List ℕ
+abbrev pub text_at : List MemberEntry → List ℕ → List ℕ
 text_at [] last = []
 text_at (e ∷ es) last = text_before es last
 
 -- The tree `str x`, where x is the own text of the entry at the index i, or empty if there is no such entry; `last` is
 -- that of the last entry. `members_at` takes a tree for each index: by this one each member has its own text in the
 -- place of its tree, and keeps it when members are sorted and duplicates are dropped.
-abbrev pub own_text_tree : List Entry → List ℕ → ℕ → Tree
+abbrev pub own_text_tree : List MemberEntry → List ℕ → ℕ → Tree
 own_text_tree es last i = str (text_at (drop i es) last)
 
 -- ---- what calls do to the groups and the text
@@ -98,13 +99,13 @@ pub record Gains (base out groups groups' : SplicedText) (x : List ℕ) : Type 0
 -- to `groups`, the text of the member of ns at the index i in `out` is appended, with a comma before it unless f is
 -- true
 abbrev pub PutsMember : List Member → ℕ → Bool → SplicedText → SplicedText → SplicedText → Type 0
-PutsMember ns i f out groups groups' = (es : List Entry) (last : List ℕ) (base : SplicedText)
+PutsMember ns i f out groups groups' = (es : List MemberEntry) (last : List ℕ) (base : SplicedText)
     → EndsWithMembers ns es base out last → Gains base out groups groups' (comma_before f ++ text_at (drop i es) last)
 
 -- to `groups`, the texts of the members of ns at the indices in `order` are appended, without those whose name the
 -- next one has, and with commas between; n is how many these are
 abbrev pub PutsMembers : List Member → List ℕ → SplicedText → SplicedText → SplicedText → ℕ → Type 0
-PutsMembers ns order out groups groups' n = (es : List Entry) (last : List ℕ) (base : SplicedText)
+PutsMembers ns order out groups groups' n = (es : List MemberEntry) (last : List ℕ) (base : SplicedText)
     → EndsWithMembers ns es base out last → Gains base out groups groups'
     (members_text true (without_repeats (members_at ns (own_text_tree es last) order)))
     × (n ≡ count (without_repeats (members_at ns (own_text_tree es last) order)))
@@ -145,6 +146,6 @@ PutsBack point from old new = (base : SplicedText) (x : List ℕ) → (a : Appen
 -- the text of `new` is that of `old`, which ends with the text of the members ns, with that text in normal form; b says
 -- whether no two of their names are equal
 abbrev pub SortsMembers : List Member → Texts → Texts → Bool → Type 0
-SortsMembers ns old new b = (es : List Entry) (last : List ℕ) → EndsWithMembers ns es old.groups old.out last
+SortsMembers ns old new b = (es : List MemberEntry) (last : List ℕ) → EndsWithMembers ns es old.groups old.out last
     → PutAt (begin_of ns (record { bytes = 0; splices = 0 })) old new
     (members_text true (norm_members (entry_members es last))) × (b ≡ once_each (entry_members es last))

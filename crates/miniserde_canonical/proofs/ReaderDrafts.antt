@@ -12,27 +12,27 @@ use Rattle.miniserde_model.specs.Bytes.{is_space, StopsAt}
 use Rattle.miniserde_model.specs.Lexing.{Piece, Stands, Starts, Names, Follows, closing}
 use Rattle.miniserde_model.specs.declared.kind.Kind.{Kind}
 use Rattle.miniserde_model.specs.declared.kind.Kind.TheVariants.{Seq, Map}
-use Rattle.miniserde_model.proofs.Reading.{space_append}
-use Rattle.miniserde_model.proofs.Runs.{same_run}
+use Rattle.miniserde_model.proofs.TreeEvents.{space_append}
+use Rattle.miniserde_model.proofs.LongestRuns.{same_run}
 use Rattle.miniserde_model.proofs.Prefixes.{whitespace_passes}
 use Rattle.miniserde_text.specs.Lexer.{Blank}
-use Rattle.miniserde_text.proofs.Starting.{piece_no_space, name_no_space}
-use Rattle.miniserde_text.proofs.Turning.{begins_stops}
+use Rattle.miniserde_text.proofs.FirstEvents.{piece_no_space, name_no_space}
+use Rattle.miniserde_text.proofs.NextChild.{begins_stops}
 use Rattle.miniserde_canonical.proofs.Plains.{at_once}
 use Rattle.miniserde_model.specs.private.Reading.{Moment, due, after}
 use Rattle.miniserde_text.specs.private.Stack.{innermost}
-use Rattle.miniserde_text.specs.private.Moving.{opened_kind, first_or_after}
+use Rattle.miniserde_text.specs.private.Moments.{opened_kind, first_or_after}
 use Rattle.miniserde_canonical.specs.CanonicalToken.{CanonicalToken, leaf, name, array, array_end, object, object_end, tokens}
 use Rattle.miniserde_canonical.specs.CanonicalToken as token
 use Rattle.miniserde_canonical.specs.declared.draft.Draft.{Draft}
-use Rattle.miniserde_canonical.specs.private.Arranging.{comma_before, State, Closes, TokenStep, TokenSteps, start}
+use Rattle.miniserde_canonical.specs.private.States.{comma_before, State, Closes, TokenStep, TokenSteps, start}
 use Rattle.miniserde_canonical.specs.private.Drafts.{Wrote, Holding, Represents, ChangesOnlyText, Recalls, draft_at}
 use Rattle.miniserde_canonical.specs.private.Drafts.{DraftTakes}
-use Rattle.miniserde_canonical.specs.private.Moving.{first_token, ReadsTokens}
-use Rattle.miniserde_canonical.proofs.Growing.{steps_append}
-use Rattle.miniserde_canonical.proofs.Drafting.{keep_holding, stays}
-use Rattle.miniserde_canonical.proofs.Running.{wrote_on}
-use Rattle.miniserde_canonical.proofs.Wholes.{ReadsTokens-append, end_ok}
+use Rattle.miniserde_canonical.specs.private.EventTokens.{first_token, ReadsTokens}
+use Rattle.miniserde_canonical.proofs.TreeRuns.{steps_append}
+use Rattle.miniserde_canonical.proofs.DraftSteps.{keep_holding, stays}
+use Rattle.miniserde_canonical.proofs.InputRuns.{wrote_on}
+use Rattle.miniserde_canonical.proofs.WholeTexts.{ReadsTokens-append, end_ok}
 
 -- ---- one token
 

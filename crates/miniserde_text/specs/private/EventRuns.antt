@@ -7,7 +7,7 @@ use Rattle.miniserde_model.specs.declared.kind.Kind.{Kind}
 use Rattle.miniserde_model.specs.declared.kind.Kind.TheVariants.{Seq, Map}
 use Rattle.miniserde_model.specs.private.Reading.{Moment, due, first, after}
 use Rattle.miniserde_text.specs.private.Stack.{with_opened}
-use Rattle.miniserde_text.specs.private.Moving.{opened_kind, first_or_after, MomentFits}
+use Rattle.miniserde_text.specs.private.Moments.{opened_kind, first_or_after, MomentFits}
 
 -- From the moment on, inside the open containers st (innermost first), the text from s to r spells the events, after
 -- which no container is open. s is the text that is left now, and r what is left of it at the end. In

@@ -8,10 +8,10 @@ use Rattle.std.proofs.lemmas.List.{drop_more}
 use Rattle.miniserde_model.specs.Bytes.{is_space, StopsAt}
 use Rattle.miniserde_model.specs.Whitespace.{IsSpace, IsWhitespace}
 use Rattle.miniserde_model.specs.Lexing.{Stands}
-use Rattle.miniserde_model.proofs.Runs.{AllPass}
+use Rattle.miniserde_model.proofs.LongestRuns.{AllPass}
 use Rattle.miniserde_model.proofs.Prefixes.{whitespace_passes}
 use Rattle.miniserde_text.specs.private.Reading.{after_run, is_digit}
-use Rattle.miniserde_text.specs.private.Taking.{BeginsWith}
+use Rattle.miniserde_text.specs.private.LexerParts.{BeginsWith}
 use Rattle.miniserde_text.specs.Lexer.{Blank}
 
 -- a byte of whitespace is ASCII

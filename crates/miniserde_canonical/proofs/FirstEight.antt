@@ -10,7 +10,7 @@ use Rattle.std.proofs.lemmas.Cmp.{nat_list_cmp_total}
 use Rattle.std.proofs.lemmas.Nat.{mul-le}
 use Rattle.std.proofs.Math.Nat.{pow-suc}
 use Rattle.miniserde_model.specs.Normal.{text_cmp}
-use Rattle.miniserde_canonical.specs.private.Names.{leading_number, IsLeadingBytes}
+use Rattle.miniserde_canonical.specs.private.MemberNames.{leading_number, IsLeadingBytes}
 
 abbrev Small : List ℕ → Type 0
 Small s = (i : ℕ) → get_or s i 0 < 256

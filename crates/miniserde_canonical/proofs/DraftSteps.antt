@@ -10,18 +10,18 @@ use Rattle.miniserde_model.specs.Normal.{norm_members, Rise}
 use Rattle.miniserde_canonical.specs.CanonicalToken.{name, object}
 use Rattle.miniserde_canonical.specs.declared.member.Member.{Member}
 use Rattle.miniserde_canonical.specs.declared.draft.Draft.{Draft}
-use Rattle.miniserde_canonical.specs.private.Spreads.{Holds, none, SplicesInOrder}
+use Rattle.miniserde_canonical.specs.private.SplicedTexts.{Holds, none, SplicesInOrder}
 use Rattle.miniserde_canonical.specs.private.Members.{NamesRise}
-use Rattle.miniserde_canonical.specs.private.Arranging.{comma_before, Entry, State, start, entry_members}
-use Rattle.miniserde_canonical.specs.private.Arranging.{members_text, entries_text, once_each, Adds, Sorted}
-use Rattle.miniserde_canonical.specs.private.Arranging.{Arranged, Closes, TokenStep}
-use Rattle.miniserde_canonical.specs.private.Sorting.{Chain, texts, SortsMembers}
+use Rattle.miniserde_canonical.specs.private.States.{comma_before, MemberEntry, State, start, entry_members}
+use Rattle.miniserde_canonical.specs.private.States.{members_text, entries_text, once_each, AddsBytes, Sorted}
+use Rattle.miniserde_canonical.specs.private.States.{Arranged, Closes, TokenStep}
+use Rattle.miniserde_canonical.specs.private.SortMembers.{Chain, texts, SortsMembers}
 use Rattle.miniserde_canonical.specs.private.Drafts.{Wrote, Holding, Represents, ChangesOnlyText}
-use Rattle.miniserde_canonical.proofs.Spreads.{holds_plain, holds_behind}
+use Rattle.miniserde_canonical.proofs.SplicedTexts.{holds_plain, holds_behind}
 use Rattle.miniserde_canonical.proofs.Chains.{BeginsBehind, chain_lengths, chain_add, chain_more, chain_begin}
 use Rattle.miniserde_canonical.proofs.Chains.{chain_merge, chain_cut}
-use Rattle.miniserde_canonical.proofs.Owning.{chain_agrees, cut_own}
-use Rattle.miniserde_canonical.proofs.Running.{RunBegins, wrote_on, rewound}
+use Rattle.miniserde_canonical.proofs.MemberSpans.{chain_agrees, cut_own}
+use Rattle.miniserde_canonical.proofs.InputRuns.{RunBegins, wrote_on, rewound}
 use Rattle.miniserde_canonical.proofs.MemberLists.{Agree, rise_all}
 
 -- the draft has no text, no groups, no members and no open objects, and found no duplicate name
@@ -73,7 +73,7 @@ chain_bytes d bs s x r =
     (holds_plain d.groups.bytes.items d.groups.splices.items (0 + length bs) x))
 
 -- if a draft holds s, and s' is s with the bytes x appended, it holds s' with x after its bytes
-pub holding_added : {d : Draft} {bs : List ℕ} {s s' : State} (x : List ℕ) → Adds x s s' → Holding d bs s → Holding d (bs ++ x) s'
+pub holding_added : {d : Draft} {bs : List ℕ} {s s' : State} (x : List ℕ) → AddsBytes x s s' → Holding d bs s → Holding d (bs ++ x) s'
 holding_added {d = d} {bs = bs} {s = s} x a r = record {
   chain = rw (a.1, a.0) (chain_bytes d bs s x r);
   good = r.good;
@@ -115,7 +115,7 @@ pub holding_begun : {d d' : Draft} {bs : List ℕ} {s s' : State} (n : Member) (
 holding_begun {d = d} {d' = d'} {bs = bs} {s = s} {s' = s'} n name_text k m o begins a r =
     let ms = d.groups.bytes.items in
     let gs = d.groups.splices.items in
-    let y : Entry = record { earlier_text = s.last; first = s.first; name = name_text } in
+    let y : MemberEntry = record { earlier_text = s.last; first = s.first; name = name_text } in
     let x = string_text name_text ++ 58 ∷ [] in
     let cs = bs ++ comma_before s.first in
     let begun : Chain (d.members.items ++ n ∷ []) (s.entries ++ y ∷ []) ms gs 0 0 cs d.out.splices.items [] =
@@ -169,9 +169,9 @@ as_many d bs s f r l =
     length-take-le f d.members.items l ∙ sym (length-take-le f s.entries (omega (arith, l, same)))
 
 -- the members behind a point agree with their entries
-own_part : (f : ℕ) (ns : List Member) (es : List Entry) → Agree ns es → Agree (drop f ns) (drop f es)
+own_part : (f : ℕ) (ns : List Member) (es : List MemberEntry) → Agree ns es → Agree (drop f ns) (drop f es)
 own_part f [] [] a = subst (λ z. Agree z (drop f [])) (sym (drop_all {X = Member} f [] (omega arith)))
-    (subst (λ z. Agree [] z) (sym (drop_all {X = Entry} f [] (omega arith))) tt)
+    (subst (λ z. Agree [] z) (sym (drop_all {X = MemberEntry} f [] (omega arith))) tt)
 own_part zero (n ∷ ns) (e ∷ es) a = a
 own_part (suc f) (n ∷ ns) (e ∷ es) a = own_part f ns es a.1
 own_part f [] (e ∷ es) a = absurd a
@@ -226,7 +226,7 @@ pub record SortedFrom (d d' : Draft) (f : ℕ) (ns : List Member) : Type 0 where
   pub members : d'.members.items ≡ take f d.members.items
   pub distinct : d'.is_distinct ≡ (d.is_distinct && is_distinct)
 
-ordered_at : {d d' : Draft} {s : State} {f : ℕ} {n : Member} {ns : List Member} (e : Entry) (es : List Entry)
+ordered_at : {d d' : Draft} {s : State} {f : ℕ} {n : Member} {ns : List Member} (e : MemberEntry) (es : List MemberEntry)
     → f ≤ length d.members.items → SortedFrom d d' f (n ∷ ns) → Holding d d.out.bytes.items s
     → drop f s.entries ≡ e ∷ es → PutInOrder d d' s f
 ordered_at {d = d} {d' = d'} {s = s} {f = f} {n = n} {ns = ns} e es l o h is =
@@ -299,7 +299,7 @@ pub holding_sorted : {d d' : Draft} {s : State} {f : ℕ} {ns : List Member} →
     → SortedFrom d d' f ns → Holding d d.out.bytes.items s → PutInOrder d d' s f
 holding_sorted {d = d} {d' = d'} {s = s} {f = f} {ns = ns} l some o r = go ns (drop f s.entries) refl some o
   where
-    go : (ns : List Member) (es : List Entry) → drop f s.entries ≡ es → 0 < length ns → SortedFrom d d' f ns
+    go : (ns : List Member) (es : List MemberEntry) → drop f s.entries ≡ es → 0 < length ns → SortedFrom d d' f ns
         → PutInOrder d d' s f
     go [] es h some o = absurd (omega (arith, some))
     go (n ∷ ns) [] h some o =
@@ -329,7 +329,7 @@ behind xs ys f e = take_all (length ys - f) (drop f ys) (omega (arith, length-dr
 
 -- if a draft d is flushed up to a part of the input, which gives e, and the bytes x are appended in place of the part,
 -- which gives d', then d' represents a state with x appended
-pub rewritten : {d e d' : Draft} {rest rest' : List ℕ} {s s' : State} (part x : List ℕ) → Adds x s s'
+pub rewritten : {d e d' : Draft} {rest rest' : List ℕ} {s s' : State} (part x : List ℕ) → AddsBytes x s s'
     → (r : Represents d rest s) → Wrote e rest r.bytes → ChangesOnlyText d d' → rest ≡ part ++ rest'
     → RunBegins e d' rest' (r.bytes ++ x) → Represents d' rest' s'
 rewritten part x a r w k p b = record {
@@ -340,7 +340,7 @@ rewritten part x a r w k p b = record {
 
 -- if the next part of the input is what the state gains, the draft stays as it is: the part joins what was read and not
 -- yet copied
-pub stays : {d : Draft} {rest : List ℕ} {s s' : State} (part rest' : List ℕ) → Adds part s s' → Represents d rest s
+pub stays : {d : Draft} {rest : List ℕ} {s s' : State} (part rest' : List ℕ) → AddsBytes part s s' → Represents d rest s
     → rest ≡ part ++ rest' → Represents d rest' s'
 stays part rest' a r e = record {
   bytes = r.bytes ++ part;
@@ -355,7 +355,7 @@ pub holds_whole : (d : Draft) (s : State) → Holding d d.out.bytes.items s → 
     → Holds d.groups.bytes.items d.groups.splices.items 0 d.out.bytes.items d.out.splices.items s.last
 holds_whole d s r e = go d.members.items s.entries e r.chain
   where
-    go : (ns : List Member) (es : List Entry) → es ≡ [] → Chain ns es d.groups.bytes.items d.groups.splices.items 0
+    go : (ns : List Member) (es : List MemberEntry) → es ≡ [] → Chain ns es d.groups.bytes.items d.groups.splices.items 0
         0 d.out.bytes.items d.out.splices.items s.last
         → Holds d.groups.bytes.items d.groups.splices.items 0 d.out.bytes.items d.out.splices.items s.last
     go [] [] e c = c
@@ -363,7 +363,7 @@ holds_whole d s r e = go d.members.items s.entries e r.chain
     go ns (x ∷ es) e c = absurd (omega (arith, ap length e))
 
 -- if s and t have equal `last` and `distinct`, a state that is t with members sorted is s with them sorted
-pub sorted_like : (es : List Entry) (s t m : State) → t.last ≡ s.last → t.distinct ≡ s.distinct → Sorted es t m → Sorted es s m
+pub sorted_like : (es : List MemberEntry) (s t m : State) → t.last ≡ s.last → t.distinct ≡ s.distinct → Sorted es t m → Sorted es s m
 sorted_like [] s t m h k p = absurd p
 sorted_like (e ∷ es) s t m h k p = (
   p.0 ∙ ap (λ z. e.earlier_text ++ (comma_before e.first ++ members_text true (norm_members (entry_members (e ∷ es) z)))) h,

@@ -4,9 +4,9 @@ use Rattle.miniserde_model.specs.Step.{Step}
 use Rattle.miniserde_model.specs.Position.{Completes}
 use Rattle.miniserde_model.specs.declared.kind.Kind.{Kind}
 use Rattle.miniserde_model.specs.private.Reading.{Moment, Spells}
-use Rattle.miniserde_text.specs.private.Runs.{Runs, Consumes}
+use Rattle.miniserde_text.specs.private.EventRuns.{Runs, Consumes}
 use Rattle.miniserde_text.specs.private.Stack.{with_opened}
-use Rattle.miniserde_text.specs.private.Moving.{opened_kind, first_or_after, due_or_after}
+use Rattle.miniserde_text.specs.private.Moments.{opened_kind, first_or_after, due_or_after}
 use Rattle.miniserde_place.specs.Place.{PlaceView, AdvancesBy}
 
 -- an engine in the middle of a text; C is the type of content

@@ -7,11 +7,11 @@ use Rattle.miniserde_canonical.specs.declared.spread.Point.{Point}
 use Rattle.miniserde_canonical.specs.declared.spread.Splice.{Splice}
 use Rattle.miniserde_canonical.specs.declared.spread.SplicedText.{SplicedText}
 use Rattle.miniserde_canonical.specs.declared.member.Member.{Member}
-use Rattle.miniserde_canonical.specs.private.Spreads.{part_between, Holds, none}
+use Rattle.miniserde_canonical.specs.private.SplicedTexts.{part_between, Holds, none}
 use Rattle.miniserde_canonical.specs.private.Members.{begin_of, before_comma, end_of}
-use Rattle.miniserde_canonical.specs.private.Arranging.{comma_before, Entry, text_before}
-use Rattle.miniserde_canonical.specs.private.Sorting.{Chain, EndsWithMembersFrom, EndsWithMembers, IsEnd, text_at}
-use Rattle.miniserde_canonical.proofs.Spreads.{between_end, between_mid, between_none}
+use Rattle.miniserde_canonical.specs.private.States.{comma_before, MemberEntry, text_before}
+use Rattle.miniserde_canonical.specs.private.SortMembers.{Chain, EndsWithMembersFrom, EndsWithMembers, IsEnd, text_at}
+use Rattle.miniserde_canonical.proofs.SplicedTexts.{between_end, between_mid, between_none}
 use Rattle.miniserde_canonical.proofs.Chains.{Cut}
 use Rattle.miniserde_canonical.proofs.MemberLists.{Agree}
 
@@ -32,7 +32,7 @@ holds_between groups out a b {x = x} {y = y} w e f u = (
       (sym e) (subst (λ z. Holds groups.bytes.items groups.splices.items a.bytes y z x) (sym f) u),
 )
 
-own_first : {n : Member} (ns : List Member) {e : Entry} (es : List Entry) {groups out : SplicedText} {last : List ℕ}
+own_first : {n : Member} (ns : List Member) {e : MemberEntry} (es : List MemberEntry) {groups out : SplicedText} {last : List ℕ}
     (end : Point) → IsEnd end out → EndsWithMembersFrom n ns e es groups out last
     → HoldsBetween groups out n.point (before_comma ns end) (text_before es last)
 own_first {n = n} [] {e = e} [] {groups = groups} {out = out} end i o =
@@ -69,7 +69,7 @@ own_first {n = n} (m ∷ ns) {e = e} (f ∷ es) {groups = groups} {out = out} en
 own_first [] (f ∷ es) end i o = absurd o.chain
 own_first (m ∷ ns) [] end i o = absurd o.chain
 
-own_tail : {n : Member} (ns : List Member) {e : Entry} (es : List Entry) {groups out : SplicedText} {last : List ℕ}
+own_tail : {n : Member} (ns : List Member) {e : MemberEntry} (es : List MemberEntry) {groups out : SplicedText} {last : List ℕ}
     → EndsWithMembersFrom n ns e es groups out last → EndsWithMembers ns es groups out last
 own_tail [] [] o = tt
 own_tail (m ∷ ns) (f ∷ es) o =
@@ -93,7 +93,7 @@ own_tail (m ∷ ns) (f ∷ es) o =
 own_tail [] (f ∷ es) o = absurd o.chain
 own_tail (m ∷ ns) [] o = absurd o.chain
 
-own_none : (ns : List Member) (es : List Entry) (groups : SplicedText) {out : SplicedText} (last : List ℕ) {end : Point}
+own_none : (ns : List Member) (es : List MemberEntry) (groups : SplicedText) {out : SplicedText} (last : List ℕ) {end : Point}
     → IsEnd end out → ns ≡ [] → es ≡ [] → HoldsBetween groups out (begin_of ns end) (end_of ns end) (text_at es last)
 own_none [] [] groups {out = out} last {end = end} i e f =
     holds_between groups out end end
@@ -104,12 +104,12 @@ own_none (n ∷ ns) es groups last i e f = absurd (omega (arith, ap length e))
 own_none [] (x ∷ es) groups last i e f = absurd (omega (arith, ap length f))
 
 -- the span of the member at the index i holds the text of the entry at i
-pub own_span : (i : ℕ) (ns : List Member) (es : List Entry) (groups : SplicedText) {out : SplicedText} (last : List ℕ)
+pub own_span : (i : ℕ) (ns : List Member) (es : List MemberEntry) (groups : SplicedText) {out : SplicedText} (last : List ℕ)
     {end : Point} → IsEnd end out → EndsWithMembers ns es groups out last
     → HoldsBetween groups out (begin_of (drop i ns) end) (end_of (drop i ns) end) (text_at (drop i es) last)
 own_span i [] [] groups last p o =
     own_none (drop i []) (drop i []) groups last p (drop_all {X = Member} i [] (omega arith))
-    (drop_all {X = Entry} i [] (omega arith))
+    (drop_all {X = MemberEntry} i [] (omega arith))
 own_span zero (n ∷ ns) (e ∷ es) groups last {end = end} p o = own_first ns es end p o
 own_span (suc i) (n ∷ ns) (e ∷ es) groups last p o = own_span i ns es groups last p (own_tail ns es o)
 own_span i [] (e ∷ es) groups last p o = absurd o
@@ -118,7 +118,7 @@ own_span i (n ∷ ns) [] groups last p o = absurd o
 -- ---- names
 
 -- the members of a chain agree with its entries
-pub chain_agrees : (ns : List Member) (es : List Entry) (ms : List ℕ) (gs : List Splice) (at k : ℕ) (bs : List ℕ)
+pub chain_agrees : (ns : List Member) (es : List MemberEntry) (ms : List ℕ) (gs : List Splice) (at k : ℕ) (bs : List ℕ)
     (hs : List Splice) (last : List ℕ) → Chain ns es ms gs at k bs hs last → Agree ns es
 chain_agrees [] [] ms gs at k bs hs last h = tt
 chain_agrees (n ∷ ns) (e ∷ es) ms gs at k bs hs last h =
@@ -127,7 +127,7 @@ chain_agrees [] (e ∷ es) ms gs at k bs hs last h = absurd h
 chain_agrees (n ∷ ns) [] ms gs at k bs hs last h = absurd h
 
 -- the members with whose texts a text ends agree with their entries
-pub own_agrees : (ns : List Member) (es : List Entry) (groups out : SplicedText) (last : List ℕ)
+pub own_agrees : (ns : List Member) (es : List MemberEntry) (groups out : SplicedText) (last : List ℕ)
     → EndsWithMembers ns es groups out last → Agree ns es
 own_agrees [] [] groups out last o = tt
 own_agrees (n ∷ ns) (e ∷ es) groups out last o = (
@@ -138,7 +138,7 @@ own_agrees [] (e ∷ es) groups out last o = absurd o
 own_agrees (n ∷ ns) [] groups out last o = absurd o
 
 -- what is cut off a chain begins with a member
-pub cut_own : (ns0 : List Member) (es0 : List Entry) (n : Member) (e : Entry) (ns : List Member) (es : List Entry)
+pub cut_own : (ns0 : List Member) (es0 : List MemberEntry) (n : Member) (e : MemberEntry) (ns : List Member) (es : List MemberEntry)
     (groups out : SplicedText) (last : List ℕ)
     → Cut ns0 es0 n e ns es groups.bytes.items groups.splices.items 0 0 out.bytes.items out.splices.items last
     → EndsWithMembers (n ∷ ns) (e ∷ es) groups out last

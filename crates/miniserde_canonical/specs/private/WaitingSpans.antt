@@ -3,7 +3,7 @@
 use Rattle.std.specs.Prelude.{◌≡◌, ◌-◌, ◌+◌, ◌^◌, ℕ, List, [], ◌∷◌, ◌++◌}
 use Rattle.miniserde_canonical.specs.declared.spread.Span.{Span}
 use Rattle.miniserde_canonical.specs.declared.spread.Splice.{Splice}
-use Rattle.miniserde_canonical.specs.private.Spreads.{Holds, Within, bytes_in, splices_in}
+use Rattle.miniserde_canonical.specs.private.SplicedTexts.{Holds, Within, bytes_in, splices_in}
 
 -- the span p of the groups, which have the bytes ms and the splices gs, holds the text x
 abbrev pub SpanHolds : List ℕ → List Splice → Span → List ℕ → Type 0

@@ -10,18 +10,18 @@ use Rattle.miniserde_model.specs.Bytes.{StopsAt}
 use Rattle.miniserde_model.specs.Lexing.{IsByte, IsName, Stands, Piece, Ends, Starts, Names, Begins}
 use Rattle.miniserde_model.specs.declared.kind.Kind.{Kind}
 use Rattle.miniserde_model.specs.private.Reading.{due, StandsThen, Spells}
-use Rattle.miniserde_model.proofs.Runs.{same_run}
+use Rattle.miniserde_model.proofs.LongestRuns.{same_run}
 use Rattle.miniserde_model.proofs.Numbers.{same_number}
 use Rattle.miniserde_model.proofs.Strings.{same_string}
 use Rattle.miniserde_model.specs.Bytes.{is_space}
 use Rattle.miniserde_model.proofs.Prefixes.{whitespace_passes}
-use Rattle.miniserde_model.proofs.Unique.{kind_of_byte, Head, value_head, head_no_space, string_head, same_word, same_truth}
+use Rattle.miniserde_model.proofs.Unique.{leading_kind, Head, value_head, head_no_space, string_head, same_word, same_truth}
 use Rattle.miniserde_text.specs.private.Stack.{with_opened}
-use Rattle.miniserde_text.specs.private.Moving.{opened_kind, first_or_after, MomentFits}
+use Rattle.miniserde_text.specs.private.Moments.{opened_kind, first_or_after, MomentFits}
 
 -- ---- the first byte
 
--- the class of the first byte of the event's token (`kind_of_byte`); 7 if the event does not begin a value
+-- the class of the first byte of the event's token (`leading_kind`); 7 if the event does not begin a value
 abbrev pub class : Step → ℕ
 class step.null = 0
 class (boolean x) = 1
@@ -130,7 +130,7 @@ same_class e f a b x y p q h =
     let v = piece_head f b q in
     let g : ◌≡◌ {A = List ℕ} (u.byte ∷ (u.rest ++ x)) (v.byte ∷ (v.rest ++ y)) = ap (λ z. z ++ x) (sym u.is) ∙ h ∙ ap (λ z. z ++ y) v.is in
     let same : u.byte ≡ v.byte = cc in
-    sym u.of_kind ∙ ap kind_of_byte same ∙ v.of_kind
+    sym u.of_kind ∙ ap leading_kind same ∙ v.of_kind
 
 abbrev leaf_event : Tree → Step
 leaf_event (nonneg n) = nonnegative n
