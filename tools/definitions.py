@@ -124,7 +124,7 @@ def newtype_of(bare, line, above):
     public, name, params, shown, of, text = found.groups()
     asked, above = in_words(above, "newtype", of)
     if "check" in asked and not re.search(r"\bcheck\b", text or ""):
-        raise Refused(f"line {line}: what `try_from` refuses, a function says: write `// check FUNCTION` behind the newtype, and the function into `src/checks.rt` (docs/YOUR-OWN-TYPES.md): {bare}")
+        raise Refused(f"line {line}: what `try_from` refuses, a function says: write `// check FUNCTION` behind the newtype, the function into `src/checks.rt`, and its word into `specs/Checks.antt` (docs/YOUR-OWN-TYPES.md): {bare}")
     above = [it for _, it in above]
     derives = [name for it in above for names in DERIVE.findall(it) for name in re.findall(r"\w+", names)]
     words, check = (), ""

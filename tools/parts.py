@@ -160,7 +160,11 @@ def check_defaults(found):
     for it in found:
         for part in it.parts:
             if part.default is not None and not fits_default(part.of, part.default, enums):
-                instead = f"write one of its variants, as `default {enums[part.of][0]}`" if part.of in enums else "make the field an `Option`, or write the value that it has"
+                instead = "make the field an `Option`"
+                if part.of in enums:
+                    instead = f"write one of its variants, as `default {enums[part.of][0]}`"
+                elif fits_default(part.of, "", enums):
+                    instead += ", or write the value that it has"
                 yield f"line {part.line}: `{f'default {part.default}'.strip()}` gives no value of `{part.of}`: {instead}"
 
 

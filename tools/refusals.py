@@ -121,14 +121,17 @@ def check_param(param, bare, line):
 
 
 def check_derives(it, found, uses):
-    """Refuses a `Default`, which nothing derives, and a `Clone` around what has none, since a copy may fail to allocate."""
+    """Refuses a `Default`, which nothing derives, and derives around what lacks them, as a `Clone`, since a copy may fail to allocate."""
     documents = {"Array", "Document", "Number", "Object", "Unique", "Value"} - names_beside("miniserde::json", found, uses)
+    lacking = [f"`{each}`" for each in it.derives if each in ("Clone", "Copy", "PartialEq", "Eq", "PartialOrd", "Ord", "Hash")]
     if "Default" in it.derives:
         yield f"line {it.line}: `Default` is not derived: leave it out, and mark the fields that may be missing: {it.shown}"
-    for part in it.parts if "Clone" in it.derives else []:
+    for part in it.parts:
+        if any(re.fullmatch(r"#\[\s*default\s*\]", above) for above in part.above):
+            yield f"line {part.line}: `#[default]` belongs to `Default`, which is not derived: leave it out: {part.name}"
         name = next((each for each in re.findall(rf"(?:(?<![\w:])|(?<=json::)){NAME}", part.of) if each in documents), None)
-        if name:
-            yield f"line {part.line}: `{name}` has no `Clone`: leave `Clone` out of the derives of `{it.shown}`: {part.of}"
+        if name and lacking:
+            yield f"line {part.line}: `{name}` has no {' and no '.join(lacking)}: leave {' and '.join(lacking)} out of the derives of `{it.shown}`: {part.of}"
 
 
 def check_keys(found):
