@@ -13,7 +13,7 @@ use Rattle.miniserde.specs.Tree.{Tree, members, Members, no_members, member}
 use Rattle.miniserde.specs.Laws.{NormKeepsLast, NormRises, NormIsOnly}
 use Rattle.miniserde.specs.Normal.{text_cmp, with_if_absent_by, with_if_absent, norm, norm_members}
 use Rattle.miniserde.specs.Normal.{or_else, last_of, BeginsAbove, Rise, put_first_by, put}
-use Rattle.miniserde.specs.Kinds.{only_members}
+use Rattle.miniserde.specs.OnlyContainers.{only_members}
 use Rattle.miniserde.specs.Retained.{retained_members, retained_tree}
 use Rattle.miniserde.specs.Fields.{AllOfName, LastMemberReads}
 use Rattle.settings_app.specs.Changes.{with_member_behind, HasOnlyChange}

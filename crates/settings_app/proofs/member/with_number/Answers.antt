@@ -7,7 +7,7 @@ use Rattle.miniserde.specs.Normal.{put}
 use Rattle.miniserde.specs.Value.{IsJson}
 use Rattle.miniserde.specs.Compact.{compact}
 use Rattle.miniserde.specs.Retained.{retained_tree}
-use Rattle.miniserde.specs.Kinds.{only_members}
+use Rattle.miniserde.specs.OnlyContainers.{only_members}
 use Rattle.miniserde.specs.Values.{content_of, object_content, object_members}
 use Rattle.settings_app.proofs.Members.{written}
 use Rattle.settings_app.proofs.member.with_number.Goals as goal
