@@ -3,7 +3,9 @@ ghost use Rattle.std.specs.Prelude.{◌≡◌, ◌<◌, ◌+◌, ◌++◌, ℕ, 
 ghost use Rattle.std.specs.Prelude.{IfOk, IfErr, OnOk, OnErr, IsErrOf, option_map, length, string_bytes, string_len};
 ghost use Rattle.std.specs.Prelude.{string_capacity};
 ghost use Rattle.std.specs.Str.{bytes_eq};
+ghost use Rattle.std.specs.declared.cmp.Ordering.TheVariants.{Less};
 ghost use Rattle.miniserde_keys.specs.Keys.{Key};
+ghost use Rattle.miniserde_model.specs.Normal.{text_cmp};
 ghost use Rattle.miniserde_model.specs.declared.error.Error.{Error};
 ghost use Rattle.miniserde_model.specs.declared.error.Error.TheVariants.{Memory};
 
@@ -47,6 +49,15 @@ pub trait MapKey: Ranged + Sized + Eq + Drop {
         ensures memory { OnErr result (IsErrOf result Memory) }
         ensures err { OnErr result (string_bytes out.new ≡ string_bytes out.old) }
         ensures room { OnErr result (string_capacity out.old < string_len out.old + length (text self.now)) };
+
+    /// Whether the key's name is known to come before the name of `later` in byte order. If the result is `false`,
+    /// nothing is said of the two; so it is by default.
+    fn precedes(&self, later: &Self) -> bool
+        ensures { result ≡ true → text_cmp (text self.now) (text later.now) ≡ Less }
+    {
+        let _unknown = later;
+        false
+    }
 
     // Keys are equal exactly if their codes are.
     ghost alike: { (a b : Self) → Self.eq a b ≡ bytes_eq (code (content a)) (code (content b)) };

@@ -2,6 +2,8 @@
 use Rattle.std.specs.Prelude.{◌≡◌, ◌≤◌, ℕ, ◌+◌, ◌<◌, List, ◌++◌, length, Bool, true, false, Result, OnOk, OnErr, IsErrOf}
 use Rattle.miniserde_model.specs.declared.error.Error.{Error}
 use Rattle.miniserde_model.specs.declared.error.Error.TheVariants.{Memory}
+use Rattle.miniserde_model.specs.Tree.{Tree}
+use Rattle.miniserde_model.specs.Normal.{norm}
 
 -- what a contract sees of a writer
 pub record WriterView : Type 0 where
@@ -11,6 +13,8 @@ pub record WriterView : Type 0 where
   pub first : Bool
   -- a call failed
   pub refused : Bool
+  -- each tree that was written is known to be in normal form
+  pub normal : Bool
   -- how many bytes the text has room for
   pub capacity : ℕ
 
@@ -21,6 +25,14 @@ after_append w bs n = record w { text = w.text ++ bs; capacity = n }
 -- the writer with its flag `first` set to b
 abbrev pub with_first_flag : WriterView → Bool → WriterView
 with_first_flag w b = record w { first = b }
+
+-- the writer with its flag `normal` set to b
+abbrev pub with_normal : WriterView → Bool → WriterView
+with_normal w b = record w { normal = b }
+
+-- the tree t was written: if the writer's flag `normal` is true, it was true before, and t is in normal form
+abbrev pub KeepsNormal : WriterView → Tree → WriterView → Type 0
+KeepsNormal old t new = new.normal ≡ true → (old.normal ≡ true) × (norm t ≡ t)
 
 -- the writer after a call failed
 abbrev pub with_refused : WriterView → WriterView

@@ -7,6 +7,7 @@ ghost use Rattle.miniserde_model.specs.Tree.{Tree};
 ghost use Rattle.miniserde_model.specs.Compact.{compact};
 ghost use Rattle.miniserde_model.specs.InRange.{InRange};
 ghost use Rattle.miniserde_model.specs.declared.error.Error.TheVariants.{Memory};
+ghost use Rattle.miniserde_ser.specs.Writer.{KeepsNormal};
 
 mod compact;
 mod impls;
@@ -39,8 +40,9 @@ pub enum Fragment<'a> {
 }
 
 /// A JSON text that is being written. A contract sees its bytes, the flag that the next element or member needs no
-/// comma, whether a call failed, and how many bytes there is room for. The writer does not check that the calls make
-/// one whole value. A call that fails leaves the text and its room unchanged.
+/// comma, whether a call failed, whether the trees that were written are known to be in normal form, and how many bytes
+/// there is room for. The writer does not check that the calls make one whole value. A call that fails leaves the text
+/// and its room unchanged.
 #[derive(Drop)]
 pub struct Writer {
     // The text. If a call failed, it is empty and has no capacity, so a call that finds room need not test `refused`.
@@ -51,6 +53,8 @@ pub struct Writer {
     first: bool,
     // Whether a call failed.
     refused: bool,
+    // Whether each tree that was written is known to be in normal form. Opening an object in any order ends it.
+    normal: bool,
 }
 
 impl Model for Writer {
@@ -63,6 +67,7 @@ impl Model for Writer {
       text = if w.refused then string_bytes w.unfinished else string_bytes w.text;
       first = w.first;
       refused = w.refused;
+      normal = w.normal;
       capacity = if w.refused then string_capacity w.unfinished else string_capacity w.text;
     } };
 
@@ -74,12 +79,12 @@ impl Writer {
     ghost use Rattle.std.specs.Prelude.{string_capacity, ◌≤◌, if◌then◌else◌, codes, decimal};
     ghost use Rattle.miniserde_model.specs.Compact.{compact, string_text};
     ghost use Rattle.miniserde_model.specs.declared.error.Error.TheVariants.{Memory};
-    ghost use Rattle.miniserde_ser.specs.Writer.{Appends, with_refused};
+    ghost use Rattle.miniserde_ser.specs.Writer.{Appends, with_normal, with_refused};
     ghost use Rattle.miniserde_ser.specs.Fragment.{fragment_tree};
 
     /// Returns a writer of an empty text. Allocates nothing.
     pub fn new(alloc: Global) -> Writer
-        ensures { result ≡ record { text = []; first = true; refused = false; capacity = 0 } }
+        ensures { result ≡ record { text = []; first = true; refused = false; normal = false; capacity = 0 } }
     {
         Writer {
             // The contract of `String::new` does not promise a capacity of 0.
@@ -87,7 +92,26 @@ impl Writer {
             unfinished: String::with_capacity(alloc, 0).unwrap(),
             first: true,
             refused: false,
+            normal: false,
         }
+    }
+
+    /// Returns a writer of an empty text that finds out whether the text is canonical (`is_normal`). Allocates nothing.
+    pub fn watching(alloc: Global) -> Writer
+        ensures { result ≡ record { text = []; first = true; refused = false; normal = true; capacity = 0 } }
+    {
+        let mut w = Writer::new(alloc);
+        w.normal = true;
+        w
+    }
+
+    /// Whether each tree that was written is known to be in normal form. The compact text of a value is then its
+    /// canonical text. It is `false` if the writer was not made by `watching`, or an object was opened by `map`.
+    #[inline(always)]
+    pub fn is_normal(&self) -> bool
+        ensures { result ≡ self.now.normal }
+    {
+        self.normal
     }
 
     /// Returns the allocator of the text. It has no contract, since a contract can say nothing of a `Global`.
@@ -219,8 +243,18 @@ impl Writer {
         self.punctuate("]", false)
     }
 
-    /// Opens an object: appends `{`. Returns `Memory` if the text cannot grow or an earlier call failed.
+    /// Opens an object with names in any order: appends `{`. Returns `Memory` if the text cannot grow or an earlier call
+    /// failed.
     pub fn map(&mut self) -> Result<()>
+        ensures { Appends (with_normal self.old false) (codes "{") true result self.new }
+    {
+        self.normal = false;
+        self.punctuate("{", true)
+    }
+
+    /// Opens an object whose names rise in byte order: appends `{`. The writer does not check the order: the contract of
+    /// `Serialize::begin` asks for it. Returns `Memory` if the text cannot grow or an earlier call failed.
+    pub fn map_in_order(&mut self) -> Result<()>
         ensures { Appends self.old (codes "{") true result self.new }
     {
         self.punctuate("{", true)
@@ -299,6 +333,7 @@ impl Writer {
             unfinished: _,
             first: _,
             refused,
+            normal: _,
         } = self;
         if refused {
             Err(Error::Memory)
@@ -319,6 +354,7 @@ pub trait Serialize {
     fn begin(&self, w: &mut Writer) -> Result<()>
         ensures ok { OnOk result (w.new.text ≡ w.old.text ++ compact (tree self.now)) }
         ensures in_range { OnOk result (InRange (tree self.now)) }
+        ensures normal { OnOk result (KeepsNormal w.old (tree self.now) w.new) }
         ensures first { OnOk result (w.old.first ≡ false → w.new.first ≡ false) }
         ensures unrefused { OnOk result (w.new.refused ≡ false) }
         ensures was_running { OnOk result (w.old.refused ≡ false) }

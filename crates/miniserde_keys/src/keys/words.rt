@@ -28,6 +28,11 @@ impl MapKey for String {
     fn to_key(&self, out: &mut String) -> Result<()> {
         Ok(append(out, self)?)
     }
+
+    #[inline(always)]
+    fn precedes(&self, later: &String) -> bool {
+        self < later
+    }
 }
 
 impl MapKey for bool {

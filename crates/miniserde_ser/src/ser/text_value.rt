@@ -4,6 +4,7 @@ ghost use Rattle.miniserde_model.specs.Compact.{compact};
 ghost use Rattle.miniserde_model.specs.InRange.{InRange};
 ghost use Rattle.miniserde_model.specs.Tree.{str};
 ghost use Rattle.miniserde_model.specs.declared.error.Error.TheVariants.{Memory};
+ghost use Rattle.miniserde_ser.specs.Writer.{KeepsNormal};
 
 use super::{Fragment, Writer};
 use miniserde_keys::TextValue;
@@ -14,6 +15,7 @@ use miniserde_model::error::Result;
 pub fn write_text_value<T: TextValue>(value: &T, w: &mut Writer) -> Result<()>
     ensures ok { OnOk result (w.new.text ≡ w.old.text ++ compact (str (T.text (T.content value.now)))) }
     ensures in_range { OnOk result (InRange (str (T.text (T.content value.now)))) }
+    ensures normal { OnOk result (KeepsNormal w.old (str (T.text (T.content value.now))) w.new) }
     ensures first { OnOk result (w.old.first ≡ false → w.new.first ≡ false) }
     ensures unrefused { OnOk result (w.new.refused ≡ false) }
     ensures was_running { OnOk result (w.old.refused ≡ false) }

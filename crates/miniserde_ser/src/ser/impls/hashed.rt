@@ -6,9 +6,10 @@ ghost use Rattle.std.specs.Str.{bytes_eq};
 ghost use Rattle.miniserde_model.specs.Tree.{members};
 ghost use Rattle.miniserde_model.specs.Compact.{compact};
 ghost use Rattle.miniserde_model.specs.InRange.{InRange};
-ghost use Rattle.miniserde_model.specs.Normal.{text_cmp};
+ghost use Rattle.miniserde_model.specs.Normal.{text_cmp, Rise};
 ghost use Rattle.miniserde_model.specs.declared.error.Error.TheVariants.{Memory};
 ghost use Rattle.miniserde_ser.specs.Trees.{members_of, in_order};
+ghost use Rattle.miniserde_ser.specs.Writer.{KeepsNormal};
 
 use crate::ser::{Serialize, Writer};
 use miniserde_keys::MapKey;
@@ -59,19 +60,21 @@ fn sort_entries<V>(entries: &mut Vec<(String, &V)>) -> result::Result<(), AllocE
     Ok(entries.sort_by(|a, b| a.0.cmp(&b.0))?)
 }
 
-// Writes an object whose members are the entries, in their order. Returns `Memory` if an allocation
+// Writes an object whose members are the entries, in their order, which is that of their names. Returns `Memory` if an allocation
 // fails or an earlier call of the writer failed.
 fn write_entries<V: Serialize>(entries: &[(String, &V)], w: &mut Writer) -> Result<()>
     ensures ok { OnOk result (w.new.text ≡ w.old.text
         ++ compact (members (members_of string_bytes (λ v. V.tree v.now) entries.entry.now))) }
     ensures in_range { OnOk result (InRange (members (members_of string_bytes (λ v. V.tree v.now) entries.entry.now))) }
+    ensures normal { OnOk result (Rise (members_of string_bytes (λ v. V.tree v.now) entries.entry.now)
+        → KeepsNormal w.old (members (members_of string_bytes (λ v. V.tree v.now) entries.entry.now)) w.new) }
     ensures first { OnOk result (w.new.first ≡ false) }
     ensures unrefused { OnOk result (w.new.refused ≡ false) }
     ensures was_running { OnOk result (w.old.refused ≡ false) }
     ensures memory { OnErr result (IsErrOf result Memory) }
     ensures err { OnErr result (w.new.refused ≡ true) }
 {
-    w.map()?;
+    w.map_in_order()?;
     for entry in entries {
         w.key(entry.0.as_str())?;
         entry.1.begin(w)?;

@@ -5,6 +5,7 @@ ghost use Rattle.miniserde_model.specs.Compact.{compact};
 ghost use Rattle.miniserde_model.specs.InRange.{InRange};
 ghost use Rattle.miniserde_model.specs.declared.error.Error.TheVariants.{Memory};
 ghost use Rattle.miniserde_ser.specs.Trees.{trees_of};
+ghost use Rattle.miniserde_ser.specs.Writer.{KeepsNormal};
 
 use crate::ser::{Serialize, Writer};
 use miniserde_model::error::Result;
@@ -15,6 +16,7 @@ use std::collections::VecDeque;
 fn write_items<T: Serialize>(items: &[T], w: &mut Writer) -> Result<()>
     ensures ok { OnOk result (w.new.text ≡ w.old.text ++ compact (list (trees_of T.tree items.now))) }
     ensures in_range { OnOk result (InRange (list (trees_of T.tree items.now))) }
+    ensures normal { OnOk result (KeepsNormal w.old (list (trees_of T.tree items.now)) w.new) }
     ensures first { OnOk result (w.new.first ≡ false) }
     ensures unrefused { OnOk result (w.new.refused ≡ false) }
     ensures was_running { OnOk result (w.old.refused ≡ false) }

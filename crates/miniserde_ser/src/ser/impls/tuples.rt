@@ -4,6 +4,7 @@ ghost use Rattle.miniserde_model.specs.Tree.{list, no_trees, tree};
 ghost use Rattle.miniserde_model.specs.Compact.{compact};
 ghost use Rattle.miniserde_model.specs.InRange.{InRange};
 ghost use Rattle.miniserde_model.specs.declared.error.Error.TheVariants.{Memory};
+ghost use Rattle.miniserde_ser.specs.Writer.{KeepsNormal};
 
 use crate::ser::{Serialize, Writer};
 use miniserde_model::error::Result;
@@ -14,6 +15,7 @@ use miniserde_model::error::Result;
 fn write_item<T: Serialize>(item: &T, before: &str, w: &mut Writer) -> Result<()>
     ensures ok { OnOk result (w.new.text ≡ w.old.text ++ before.now ++ compact (T.tree item.now)) }
     ensures in_range { OnOk result (InRange (T.tree item.now)) }
+    ensures normal { OnOk result (KeepsNormal w.old (T.tree item.now) w.new) }
     ensures first { OnOk result (w.new.first ≡ false) }
     ensures unrefused { OnOk result (w.new.refused ≡ false) }
     ensures was_running { OnOk result (w.old.refused ≡ false) }
