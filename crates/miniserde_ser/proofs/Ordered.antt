@@ -20,7 +20,7 @@ use Rattle.miniserde_ser.specs.Trees.{members_of, in_order}
 
 -- ---- the members in order
 
-rise_in_order : (ms : Members) → Rise (in_order ms)
+pub rise_in_order : (ms : Members) → Rise (in_order ms)
 rise_in_order no_members = tt
 rise_in_order (member name t ms) = rise_with_first name t (in_order ms) (rise_in_order ms)
 

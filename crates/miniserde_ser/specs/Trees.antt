@@ -1,7 +1,7 @@
 -- The trees of lists, optional values and maps; f returns the tree of a part.
-use Rattle.std.specs.Prelude.{ℕ, List, [], ◌∷◌, Option, Some, None}
+use Rattle.std.specs.Prelude.{◌≡◌, ℕ, List, [], ◌∷◌, Option, Some, None, ⊤}
 use Rattle.miniserde_model.specs.Tree.{Tree, null, Trees, no_trees, tree, Members, no_members, member}
-use Rattle.miniserde_model.specs.Normal.{with_if_absent}
+use Rattle.miniserde_model.specs.Normal.{norm, with_if_absent}
 
 -- the trees of the items, in order
 abbrev pub trees_of : {A : Type 0} → (A → Tree) → List A → Trees
@@ -22,3 +22,8 @@ members_of text f (e ∷ es) = member (text e.0) (f e.1) (members_of text f es)
 abbrev pub in_order : Members → Members
 in_order no_members = no_members
 in_order (member name t ms) = with_if_absent name t (in_order ms)
+
+-- the tree of each member is in normal form
+abbrev pub TreesAreNormal : Members → Type 0
+TreesAreNormal no_members = ⊤
+TreesAreNormal (member name t ms) = (norm t ≡ t) × TreesAreNormal ms

@@ -13,7 +13,7 @@ mod compact;
 mod impls;
 mod text_value;
 
-pub use compact::to_string;
+pub use compact::{to_string, to_string_and_normal};
 use itoa::Buffer;
 use miniserde_model::error::{Error, Result};
 use miniserde_text::decimal::{has_room, put_digits};

@@ -9,9 +9,9 @@ ghost use Rattle.miniserde_model.specs.declared.error.Error.{Error};
 use crate::stable::{Stable, means_in_normal_form};
 use miniserde_canonical::canonical;
 use miniserde_model::error::Result;
-use miniserde_model::json_in_range;
+use miniserde_model::{canonical_texts_equal, json_in_range};
 use miniserde_read::from_str;
-use miniserde_ser::ser::{Serialize, to_string};
+use miniserde_ser::ser::{Serialize, to_string_and_normal};
 use std::alloc::Global;
 
 /// Reads one JSON value that spans the whole text, and returns it with the canonical text of that text. Returns
@@ -38,8 +38,8 @@ pub fn read_canonical<T: Stable>(alloc: Global, j: &str) -> Result<(T, String)>
     Ok((value, text))
 }
 
-/// Returns the canonical text of a value: the compact text of the normal form of its tree. Returns `Memory` if an
-/// allocation fails.
+/// Returns the canonical text of a value: the compact text of the normal form of its tree. If the writer knows that the
+/// tree is in normal form, the text is the one that the value writes. Returns `Memory` if an allocation fails.
 pub fn canonical_of<T: Serialize>(alloc: Global, value: &T) -> Result<String>
     ensures ok { IfOk result (λ c. string_bytes c ≡ compact (norm (T.tree value.now))) }
     ensures spells { IfOk result (λ c. IsJson (string_bytes c) (norm (T.tree value.now))) }
@@ -50,7 +50,10 @@ pub fn canonical_of<T: Serialize>(alloc: Global, value: &T) -> Result<String>
     ensures memory { OnErr result (IsErrOf result Error.Memory) }
 {
     json_in_range();
-    let text = to_string(alloc, value)?;
-    let canonical = canonical(alloc, text.as_str())?;
-    Ok(canonical)
+    canonical_texts_equal();
+    let (text, is_normal) = to_string_and_normal(alloc, value)?;
+    if is_normal {
+        return Ok(text);
+    }
+    canonical(alloc, text.as_str())
 }

@@ -1,10 +1,14 @@
 -- A turn writes one member: `compact_members_step` gives the text with it, and `MembersInRange_step` says that its
 -- name is UTF-8 and its tree in range. After the turn the index is not 0, so the flag `first` is false.
-use Rattle.std.proofs.Common.{arith, ap, take, string_bytes, Bor}
-use Rattle.std.proofs.lemmas.List.{length-take-le}
-use Rattle.miniserde_model.specs.Tree.{Tree}
+use Rattle.std.proofs.Common.{◌≡◌, ◌∷◌, [], false, arith, ap, sym, subst, ◌∙◌, take, string_bytes, Bor}
+use Rattle.std.proofs.lemmas.List.{length-take-le, take_all}
+use Rattle.std.proofs.lemmas.Result.{on_ok_weaker}
+use Rattle.miniserde_model.specs.Tree.{Tree, members}
+use Rattle.miniserde_ser.specs.Trees.{members_of, TreesAreNormal}
+use Rattle.miniserde_ser.specs.Writer.{with_first_flag, after_append}
 use Rattle.miniserde_ser.proofs.Items.{took}
 use Rattle.miniserde_ser.proofs.Members.{compact_members_step, MembersInRange_step}
+use Rattle.miniserde_ser.proofs.NormalForms.{TreesAreNormal-snoc, rising_is_normal}
 use Rattle.miniserde_ser.proofs.ser.impls.hashed.write_entries.Goals as goal
 
 pub loop-entry-preserved : goal.loop-entry-preserved
@@ -21,8 +25,26 @@ loop-entry-preserved g c =
           (record { is = inv.text; start = inv.start; later = inv.later }) (ap (λ s. s.text) at)
           c.in_ok-begin.ensures.ok;
       all_in_range = MembersInRange_step string_bytes f (take i entries) entry inv.all_in_range utf8 c.in_ok-begin.ensures.in_range;
+      normal = λ n.
+          let kept = c.in_ok-begin.ensures.normal n in
+          let so = inv.normal (sym (ap (λ s. s.normal) at) ∙ kept.0) in
+          (so.0, TreesAreNormal-snoc string_bytes f (take i entries) entry so.1 kept.1);
       start = λ z. absurd (omega arith);
       later = λ _. c.in_ok-begin.ensures.first (ap (λ s. s.first) at);
       unrefused = c.in_ok-begin.ensures.unrefused;
       was_running = inv.was_running;
     })
+
+pub returns-clause-normal : goal.returns-clause-normal
+returns-clause-normal g c =
+    let f : Bor g.row.V.Denot → Tree = λ v. g.V.Serialize.tree v.now in
+    let entries = c.args.entries.now in
+    let whole : take c.loop-entry.entry-index entries ≡ entries = take_all _ entries (omega arith) in
+    on_ok_weaker c.map_finish.result
+    (λ (e : c.map_finish.new.self ≡ with_first_flag (after_append c.loop-entry.w (125 ∷ []) c.map_finish.new.self.capacity) false) rise n.
+    let so = c.loop-entry.invariant.normal (sym (ap (λ s. s.normal) e) ∙ n) in (
+      so.0,
+      ap members (rising_is_normal (members_of string_bytes f entries) rise
+          (subst (λ es. TreesAreNormal (members_of string_bytes f es)) whole so.1)),
+    ))
+    c.map_finish.ensures.ok

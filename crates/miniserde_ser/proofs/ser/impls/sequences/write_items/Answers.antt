@@ -1,10 +1,12 @@
 -- Behind an element that is not the last, a comma and the text of the elements that are left are due
 -- (`compact_children_later`).
-use Rattle.std.proofs.Common.{arith, ap, subst, sym, ◌∙◌}
+use Rattle.std.proofs.Common.{arith, ap, ap₂, subst, sym, ◌∙◌}
 use Rattle.std.proofs.lemmas.Bool.Decides.{nat_tests}
 use Rattle.miniserde_model.specs.InRange.{AllInRange}
+use Rattle.miniserde_model.specs.Tree.{tree}
 use Rattle.miniserde_ser.specs.Trees.{trees_of}
 use Rattle.miniserde_ser.proofs.Items.{compact_children_later}
+use Rattle.miniserde_ser.proofs.NormalForms.{AreNormal}
 use Rattle.miniserde_ser.proofs.ser.impls.sequences.write_items.Goals as goal
 
 pub loop-item-preserved-in_ok-append : goal.loop-item-preserved-in_ok-append
@@ -17,6 +19,9 @@ loop-item-preserved-in_ok-append g c =
           (grind (arith, nat_tests, c.is_empty.ensures, c.if-not-is_empty.true)) inv.text c.in_ok-begin.ensures.ok
           (ap (λ s. s.text) c.in_ok-append.ensures.ok);
       in_range = λ r. inv.in_range (subst (λ xs. AllInRange (trees_of f xs)) (sym split.0) (c.in_ok-begin.ensures.in_range, r));
+      normal = λ a n.
+          let kept = c.in_ok-begin.ensures.normal (sym (ap (λ s. s.normal) c.in_ok-append.ensures.ok) ∙ n) in
+          inv.normal (subst (λ xs. AreNormal (trees_of f xs)) (sym split.0) (ap₂ tree kept.1 a)) kept.0;
       unrefused = ap (λ s. s.refused) c.in_ok-append.ensures.ok ∙ c.in_ok-begin.ensures.unrefused;
       was_running = inv.was_running;
     }

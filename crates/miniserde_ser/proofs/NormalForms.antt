@@ -1,0 +1,64 @@
+-- Lists and objects in normal form: a list of trees in normal form is one (`normal_children-snoc` for a turn of a loop over
+-- its elements), and so is an object of such trees whose names rise (`rising_is_normal`), whose members are in front of
+-- the later ones (`with_first`).
+use Rattle.std.proofs.Common.{◌≡◌, ℕ, List, [], ◌∷◌, ◌++◌, Option, Some, None, refl, sym, ap, ap₂, subst, ◌∙◌, Less, option_map}
+use Rattle.miniserde_model.specs.Tree.{Tree, Trees, tree, no_trees, Members, no_members, member}
+use Rattle.miniserde_model.specs.Normal.{text_cmp, norm, norm_children, norm_members, with_if_absent, with_if_absent_by}
+use Rattle.miniserde_model.specs.Normal.{BeginsAbove, Rise}
+use Rattle.miniserde_ser.specs.Trees.{trees_of, members_of, TreesAreNormal}
+
+-- the trees of a list are in normal form
+abbrev pub AreNormal : Trees → Type 0
+AreNormal ts = norm_children ts ≡ ts
+
+with_first : (name : List ℕ) (t : Tree) (ms : Members) → BeginsAbove name ms → with_if_absent name t ms ≡ member name t ms
+with_first name t no_members b = refl
+with_first name t (member other u ms) b = ap (λ o. with_if_absent_by o name t other u ms (with_if_absent name t ms)) b
+
+-- members in rising order of their names, with trees in normal form, are their own normal form
+pub rising_is_normal : (ms : Members) → Rise ms → TreesAreNormal ms → norm_members ms ≡ ms
+rising_is_normal no_members r n = refl
+rising_is_normal (member name t ms) r n =
+    ap₂ (with_if_absent name) n.0 (rising_is_normal ms r.1 n.1) ∙ with_first name t ms r.0
+
+-- if the trees of xs and the tree of x are in normal form, so are the trees of xs with x appended
+pub normal_children-snoc : {A : Type 0} (f : A → Tree) (xs : List A) (x : A)
+    → AreNormal (trees_of f xs) → norm (f x) ≡ f x → AreNormal (trees_of f (xs ++ x ∷ []))
+normal_children-snoc f [] x e h = ap (λ u. tree u no_trees) h
+normal_children-snoc f (y ∷ ys) x e h =
+    let first : norm (f y) ≡ f y = cc e in
+    let later : AreNormal (trees_of f ys) = cc e in
+    ap₂ tree first (normal_children-snoc f ys x later h)
+
+module _ {K V : Type 0} (text : K → List ℕ) (f : V → Tree) where
+  -- if the trees of the members of es and the tree of e are in normal form, so are those with e appended
+  pub TreesAreNormal-snoc : (es : List (K × V)) (e : K × V) → TreesAreNormal (members_of text f es) → norm (f e.1) ≡ f e.1
+      → TreesAreNormal (members_of text f (es ++ e ∷ []))
+  TreesAreNormal-snoc [] e n h = (h, tt)
+  TreesAreNormal-snoc (d ∷ es) e n h = (n.0, TreesAreNormal-snoc es e n.1 h)
+
+  -- names that rise to that of e still do with d behind it, if its name comes after that of e
+  pub rise-snoc : (es : List (K × V)) (e d : K × V) → Rise (members_of text f (es ++ e ∷ []))
+      → text_cmp (text e.0) (text d.0) ≡ Less → Rise (members_of text f ((es ++ e ∷ []) ++ d ∷ []))
+  rise-snoc [] e d r l = (l, (tt, tt))
+  rise-snoc (b ∷ []) e d r l = (r.0, rise-snoc [] e d r.1 l)
+  rise-snoc (b ∷ c ∷ es) e d r l = (r.0, rise-snoc (c ∷ es) e d r.1 l)
+
+-- the entries end with one whose key is k, or there are none if k is `None`
+abbrev pub EndsAt : {K V : Type 0} → Option K → List (K × V) → Type 0
+EndsAt None es = es ≡ []
+EndsAt {K} {V} (Some k) es = (ds : List (K × V)) × (e : K × V) × (es ≡ ds ++ e ∷ []) × (e.0 ≡ k)
+
+-- names that rise still do with a further one, which comes after the last one
+pub rise_further : {K V : Type 0} (text : K → List ℕ) (f : V → Tree) (es : List (K × V)) (k : K) (d : K × V)
+    → Rise (members_of text f es) → EndsAt (Some k) es → text_cmp (text k) (text d.0) ≡ Less
+    → Rise (members_of text f (es ++ d ∷ []))
+rise_further text f es k d r (ds, e, is, last) l =
+    subst (λ xs. Rise (members_of text f (xs ++ d ∷ []))) (sym is)
+    (rise-snoc text f ds e d (subst (λ xs. Rise (members_of text f xs)) is r) (ap (λ n. text_cmp (text n) (text d.0)) last ∙ l))
+
+-- there are no entries, if they end with the key of none
+pub no_entries : {K V X : Type 0} (key : X → K) (o : Option X) {es : List (K × V)} → EndsAt (option_map key o) es
+    → ((x : X) → o ≡ Some x → ⊥) → es ≡ []
+no_entries key None e n = e
+no_entries key (Some x) e n = absurd (n x refl)
