@@ -10,6 +10,8 @@ use Rattle.miniserde_model.specs.Normal.{norm}
 use Rattle.miniserde_model.specs.Size.{size}
 use Rattle.miniserde_model.specs.declared.error.Error.{Error}
 use Rattle.miniserde_model.specs.declared.error.Error.TheVariants as error
+use Rattle.miniserde_program.specs.Counts.{inner_of, failures, flushes}
+use Rattle.miniserde_program.specs.declared.canon.counted.Counted.{Counted}
 use Rattle.miniserde_program.specs.declared.canon.Fault.{Fault}
 use Rattle.miniserde_program.specs.declared.canon.Fault.TheVariants.{Invalid, Memory, Read, Write}
 
@@ -123,20 +125,40 @@ line_of (Err Memory) = codes "canon: out of memory"
 line_of (Err Read) = codes "canon: read failed"
 line_of (Err Write) = codes "canon: write failed"
 
--- The effects of a run with the result `answer`: on what the reader has left and its failures, and
--- on what is written, the writer's failures and flushes. Each name with a prime is the state after
--- the run, and without one before it. `left` and `written` are `None` if the type of the reader or
--- the writer does not tell them to a contract. `is` relates an input to its output; `none` holds of an
--- input without an output.
-pub record RunEffects {T : Type 0} (is : List ℕ → List ℕ → Type 0) (none : List ℕ → Type 0)
-    (answer : Result T Fault) (left left' : Option (List ℕ)) (read_failures read_failures' : ℕ)
-    (written written' : Option (List ℕ)) (write_failures write_failures' flushes flushes' : ℕ) : Type 0 where
-  pub ok : OnOk answer (IfSome left (AppendsBy is written written'))
-  pub flushed : OnOk answer (flushes' ≡ flushes + 1)
-  pub read : IfRead answer (IsAtEnd left')
-  pub read_failed : read_failures' ≡ read_failures + read_faults answer
-  pub write_failed : write_failures' ≡ write_failures + write_faults answer
-  pub invalid : IsErrOf answer Invalid → IfSome left none
-  pub silent : IfSilent answer (Keeps written written')
-  pub part : IsErrOf answer Write → IfSome left (AppendsPartBy is written written')
-  pub all_written : IsErrOf answer Write → flushes < flushes' → IfSome left (AppendsBy is written written')
+-- What a contract sees of a reader and a writer that count their calls. `left` and `written` are `None` if the type of the
+-- reader or the writer does not tell them to a contract.
+pub record Streams : Type 0 where
+  -- the bytes that the reader has left
+  pub left : Option (List ℕ)
+  -- how many calls of the reader failed
+  pub read_failures : ℕ
+  -- the bytes that the writer has taken
+  pub written : Option (List ℕ)
+  -- how many calls of the writer failed
+  pub write_failures : ℕ
+  -- how many calls of `flush` the writer had
+  pub flushed : ℕ
+
+-- what a contract sees of the reader r and the writer w, of which `remaining` and `contents` tell the bytes
+abbrev pub streams : {R W : Type 0} → (R → Option (List ℕ)) → (W → Option (List ℕ)) → Counted R → Counted W → Streams
+streams remaining contents r w = record {
+  left = remaining (inner_of r);
+  read_failures = failures r;
+  written = contents (inner_of w);
+  write_failures = failures w;
+  flushed = flushes w;
+}
+
+-- The effects of a run with the result `answer` on a reader and a writer. `is` relates an input to its output; `none`
+-- holds of an input without an output.
+pub record RunEffects {T : Type 0} (is : List ℕ → List ℕ → Type 0) (none : List ℕ → Type 0) (answer : Result T Fault)
+    (old new : Streams) : Type 0 where
+  pub ok : OnOk answer (IfSome old.left (AppendsBy is old.written new.written))
+  pub flushed : OnOk answer (new.flushed ≡ old.flushed + 1)
+  pub read : IfRead answer (IsAtEnd new.left)
+  pub read_failed : new.read_failures ≡ old.read_failures + read_faults answer
+  pub write_failed : new.write_failures ≡ old.write_failures + write_faults answer
+  pub invalid : IsErrOf answer Invalid → IfSome old.left none
+  pub silent : IfSilent answer (Keeps old.written new.written)
+  pub part : IsErrOf answer Write → IfSome old.left (AppendsPartBy is old.written new.written)
+  pub all_written : IsErrOf answer Write → old.flushed < new.flushed → IfSome old.left (AppendsBy is old.written new.written)

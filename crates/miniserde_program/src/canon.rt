@@ -9,7 +9,7 @@ ghost use Rattle.miniserde_program.specs.Runs.{IsAnswer, HasNoAnswer, IsAnswerOf
 ghost use Rattle.miniserde_program.specs.Runs.{fault_of, read_faults, write_faults, IfRead};
 ghost use Rattle.miniserde_program.specs.Runs.{AppendsAnswerOfUnique, AppendsPartOfAnswerOfUnique};
 ghost use Rattle.miniserde_program.specs.Runs.{IfSilent, AppendsPart, AppendsAnswer, AppendsPartOfAnswer, status_of, line_of};
-ghost use Rattle.miniserde_program.specs.Runs.{RunEffects};
+ghost use Rattle.miniserde_program.specs.Runs.{RunEffects, streams};
 ghost use Rattle.miniserde_program.specs.declared.canon.Fault.{Fault};
 
 mod count;
@@ -118,15 +118,13 @@ pub fn program<R: Read, W: Write>(
     ensures ran { length args.now ≡ 0
         → (answer : Result (Unit {0}) Fault)
         × (result.0 ≡ status_of answer) × (result.1.now ≡ line_of answer)
-        × RunEffects IsAnswer HasNoAnswer answer (R.remaining (inner_of r.old)) (R.remaining (inner_of r.new))
-        (failures r.old) (failures r.new) (W.contents (inner_of w.old)) (W.contents (inner_of w.new))
-        (failures w.old) (failures w.new) (flushes w.old) (flushes w.new) }
+        × RunEffects IsAnswer HasNoAnswer answer (streams R.remaining W.contents r.old w.old)
+        (streams R.remaining W.contents r.new w.new) }
     ensures unique { map string_bytes args.now ≡ codes "--unique" ∷ []
         → (answer : Result (Unit {0}) Fault)
         × (result.0 ≡ status_of answer) × (result.1.now ≡ line_of answer)
-        × RunEffects IsAnswerOfUnique HasNoAnswerOfUnique answer (R.remaining (inner_of r.old)) (R.remaining (inner_of r.new))
-        (failures r.old) (failures r.new) (W.contents (inner_of w.old)) (W.contents (inner_of w.new))
-        (failures w.old) (failures w.new) (flushes w.old) (flushes w.new) }
+        × RunEffects IsAnswerOfUnique HasNoAnswerOfUnique answer (streams R.remaining W.contents r.old w.old)
+        (streams R.remaining W.contents r.new w.new) }
     ensures usage { 0 < length args.now → (map string_bytes args.now ≡ codes "--unique" ∷ [] → ⊥)
         → (result.0 ≡ 2) × (result.1.now ≡ codes "usage: canon [--unique]") × (r.new ≡ r.old) × (w.new ≡ w.old) }
 {

@@ -24,10 +24,12 @@ pub fn page(alloc: Global, text: &str) -> Result<Page<Command>>
 
 /// Parses a page of commands, and returns how many there are.
 pub fn count_of(alloc: Global, text: &str) -> Result<usize>
-    ensures { IfOk result (λ n. (t : Tree) × (p : Page Command) × IsJson text.now t
+    ensures ok { IfOk result (λ n. (t : Tree) × (p : Page Command) × IsJson text.now t
         × ⟦<Page<Command> as FromJson>⟧.means.reads t p × (n ≡ vec_len p.items)) }
+    ensures invalid { result ≡ Err Error.Invalid → (t : Tree) → IsJson text.now t
+        → (p : Page Command) → ⟦<Page<Command> as FromJson>⟧.means.reads t p → ⊥ }
 {
-    let page: Page<Command> = from_str(alloc, text)?;
+    let page = page(alloc, text)?;
     Ok(page.items.len())
 }
 
