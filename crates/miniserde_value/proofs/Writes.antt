@@ -7,7 +7,8 @@ use Rattle.miniserde_model.specs.Tree.{Tree}
 use Rattle.miniserde_model.specs.InRange.{InRange}
 use Rattle.miniserde_model.specs.Compact.{compact}
 use Rattle.miniserde_model.specs.Normal.{norm}
-use Rattle.miniserde_ser.specs.Writer.{WriterView, after_append}
+use Rattle.miniserde_model.proofs.Normal.{norm_twice}
+use Rattle.miniserde_ser.specs.Writer.{WriterView, after_append, KeepsNormal}
 use Rattle.miniserde_value.specs.Visits.{TreeVisit, leaf, visits, visits_text, first_flag_after, VisitsInRange, IsOrdered}
 use Rattle.miniserde_value.specs.Writes.{Writes}
 use Rattle.miniserde_value.proofs.Texts.{text_whole, visits_tree}
@@ -18,6 +19,7 @@ record WroteVisit (old : WriterView) (m : TreeVisit) (new : WriterView) : Type 0
   pub text : (rest : List TreeVisit) → new.text ++ visits_text new.first rest ≡ old.text ++ visits_text old.first (m ∷ rest)
   pub is_visit : VisitsInRange (m ∷ [])
   pub first : new.first ≡ first_flag_after old.first (m ∷ [])
+  pub normal : new.normal ≡ old.normal
   pub was_running : old.refused ≡ false
   pub unrefused : new.refused ≡ false
 
@@ -28,6 +30,7 @@ wrote old m new after w = record {
   text = w.text after;
   first = ap (λ b. first_flag_after b after) w.first ∙ first_before old.first m after;
   are_visits = λ h. in_range_before m after w.is_visit h;
+  normal = w.normal;
   shorter = omega arith;
   was_running = w.was_running;
   unrefused = w.unrefused;
@@ -53,6 +56,7 @@ on_leaf {before = before} {u = u} {after = after} (Ok x) old new n l w stays =
           ∙ ap (λ z. old.text ++ (compact z ++ visits_text old.first rest)) l.is_norm;
       is_visit = (subst InRange l.is_norm l.in_range, tt);
       first = refl;
+      normal = refl;
       was_running = stays;
       unrefused = stays;
     })))
@@ -80,3 +84,8 @@ tree_wrote t old mid new left w = (visits_tree t [] (w.begun.are_visits (w.ended
 pub first_wrote : (t : Tree) (old mid new : WriterView) (left : List TreeVisit) → Wrote t old mid new left
     → old.first ≡ false → new.first ≡ false
 first_wrote t old mid new left w e = w.ended.first ∙ w.begun.first ∙ ap (λ b. first_flag_after b (visits t [])) e ∙ first_visits t []
+
+-- if a tree was written, the writer's flag `normal` is unchanged, and the tree's normal form is its own normal form
+pub normal_wrote : (t : Tree) (old mid new : WriterView) (left : List TreeVisit) → Wrote t old mid new left
+    → KeepsNormal old (norm t) new
+normal_wrote t old mid new left w e = (sym w.begun.normal ∙ (sym w.ended.normal ∙ e), norm_twice t)

@@ -43,3 +43,8 @@ mutual
 pub on_ok_both : {T E P R Q : Type 0} (r : Result T E) → (P → R → Q) → OnOk r P → OnOk r R → OnOk r Q
 on_ok_both (Ok x) f p q = f p q
 on_ok_both (Err e) f p q = tt
+
+-- a fact holds of an `Ok` if it holds
+pub on_ok_of : {T E P : Type 0} (r : Result T E) → P → OnOk r P
+on_ok_of (Ok x) p = p
+on_ok_of (Err e) p = tt

@@ -65,7 +65,7 @@ fn begin_object<'a>(object: &'a Object, frames: &mut Frames<'a>, w: &mut Writer)
     ensures err { OnErr result (w.new.refused ≡ true) }
 {
     match frames.push_object(object.inner().iter()) {
-        Ok(()) => w.map(),
+        Ok(()) => w.map_in_order(),
         Err(_) => Err(w.refuse()),
     }
 }

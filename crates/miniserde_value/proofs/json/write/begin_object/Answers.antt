@@ -1,6 +1,9 @@
 -- The map of an object has its names in order.
-use Rattle.std.proofs.lemmas.Result.{on_ok_weaker}
+use Rattle.miniserde_value.specs.Values.{object_content}
+use Rattle.miniserde_value.specs.Visits.{IsOrdered}
+use Rattle.miniserde_value.specs.Walks.{NestedNamesRise}
 use Rattle.miniserde_value.proofs.Walks.{Opened, ordered_opened}
+use Rattle.miniserde_value.proofs.Written.{on_ok_of}
 use Rattle.miniserde_value.proofs.json.write.begin_object.Goals as goal
 
 pub returns-in-Ok-clause-ordered : goal.returns-in-Ok-clause-ordered
@@ -10,6 +13,7 @@ returns-in-Ok-clause-ordered c =
       entries = c.iter.ensures.rest;
       sorted = c.iter.ensures.ordered;
     } in
-    on_ok_weaker c.map.result
-    (λ _ o. let r = c.in-Ok.ensures.ordered o in (ordered_opened c.args.object.now _ _ opened r.0, r.1))
-    c.map.ensures.was_running
+    let ordered : NestedNamesRise c.push_object.new.self
+    → IsOrdered (object_content c.args.object.now) × NestedNamesRise c.args.frames.now =
+    λ o. let r = c.in-Ok.ensures.ordered o in (ordered_opened c.args.object.now _ _ opened r.0, r.1) in
+    on_ok_of _ ordered

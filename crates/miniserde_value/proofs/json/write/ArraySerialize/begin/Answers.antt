@@ -6,7 +6,7 @@ use Rattle.miniserde_value.specs.Visits.{visits}
 use Rattle.miniserde_value.specs.Values.{array_content}
 use Rattle.miniserde_value.specs.Walks.{frames_left}
 use Rattle.miniserde_value.specs.Writes.{Writes}
-use Rattle.miniserde_value.proofs.Writes.{text_wrote, tree_wrote, first_wrote}
+use Rattle.miniserde_value.proofs.Writes.{text_wrote, tree_wrote, normal_wrote, first_wrote}
 use Rattle.miniserde_value.proofs.Written.{on_ok_both}
 use Rattle.miniserde_value.proofs.json.write.ArraySerialize.begin.Goals as goal
 
@@ -31,6 +31,17 @@ returns-clause-in_range c =
     c.in_ok-begin_array.ensures.ok in
     on_ok_weaker c.put_all.result
     (λ ended. tree_wrote t c.args.w.now c.begin_array.new.w c.put_all.new.w left
+    (record { begun = begun; ended = ended })) c.put_all.ensures.ok
+
+pub returns-clause-normal : goal.returns-clause-normal
+returns-clause-normal c =
+    let t = array_content c.args.self.now in
+    let left = frames_left c.begin_array.new.frames in
+    let begun : Writes c.args.w.now (visits t []) c.begin_array.new.w left =
+    subst (λ x. Writes c.args.w.now (visits t x) c.begin_array.new.w left) c.new-frames.ensures.left
+    c.in_ok-begin_array.ensures.ok in
+    on_ok_weaker c.put_all.result
+    (λ ended. normal_wrote t c.args.w.now c.begin_array.new.w c.put_all.new.w left
     (record { begun = begun; ended = ended })) c.put_all.ensures.ok
 
 pub returns-clause-first : goal.returns-clause-first
