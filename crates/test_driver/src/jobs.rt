@@ -9,7 +9,7 @@ use demo::{Demo, Example, StrictDemo, Tag};
 use examples::action::Action;
 use examples::command::Command;
 use miniserde::de::ignore;
-use miniserde::json::{Value, feed, from_str, to_string};
+use miniserde::json::{Value, canonical_of, feed, from_str, to_string};
 use miniserde::{FromJson, Result, Serialize};
 use std::alloc::Global;
 use std::collections::{BTreeMap, HashMap};
@@ -22,14 +22,17 @@ pub enum Depth {
     Read,
     /// The value is written again.
     Both,
+    /// The value's canonical text is written.
+    Canonical,
 }
 
-/// Reads a text as a type, and writes the value unless the depth is `Read`.
+/// Reads a text as a type, and writes the value or its canonical text, unless the depth is `Read`.
 fn rewrite<T: FromJson + Serialize>(alloc: Global, depth: Depth, text: &str) -> Result<String> {
     let value: T = from_str(alloc, text)?;
     match depth {
         Depth::Read => Ok(String::new(alloc)),
         Depth::Both => to_string(alloc, &value),
+        Depth::Canonical => canonical_of(alloc, &value),
     }
 }
 

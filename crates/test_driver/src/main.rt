@@ -2,7 +2,8 @@
 //! `tools/seeded_texts`, `tools/oom/run` and `bench/run`.
 //!
 //! The first argument names the job (`jobs.rt`), the second the mode:
-//! - `read` reads the text as the job's type and drops the value; `both` writes the text that the job makes.
+//! - `read` reads the text as the job's type and drops the value; `both` writes the text that the job makes, `canonical`
+//!   in place of a value's text its canonical text.
 //! - `answer` writes the line `begins`, runs the job, and writes a line with its outcome.
 //! - `drop` writes the line `begins`, reads a document, writes `built`, drops the document, and writes `dropped`.
 //! - `sequence` runs the job on each text of a sequence, and writes a line with the outcome of each. A byte 1E separates
@@ -86,7 +87,7 @@ fn put<W: Write>(w: &mut W, text: &str) -> Result<(), Fault> {
     w.write_all(text.as_bytes()).map_err(|_| Fault::Output)
 }
 
-/// Runs a job, and writes the text that it made in mode `both`.
+/// Runs a job, and writes the text that it made, unless the depth is `Read`.
 fn measure<W: Write>(
     alloc: Global,
     job: &str,
@@ -165,6 +166,7 @@ fn on_text<R: Read, W: Write>(
     match mode {
         "read" => measure(alloc, job, Depth::Read, text, w),
         "both" => measure(alloc, job, Depth::Both, text, w),
+        "canonical" => measure(alloc, job, Depth::Canonical, text, w),
         "answer" => {
             put(w, "begins\n")?;
             answer(alloc, job, text, w)

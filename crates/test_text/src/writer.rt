@@ -39,6 +39,7 @@ fn call(w: &mut Writer, call: &str) -> Result<()> {
         "element" => w.element(),
         "seq_finish" => w.seq_finish(),
         "map" => w.map(),
+        "map_in_order" => w.map_in_order(),
         "key" => w.key(argument),
         "map_finish" => w.map_finish(),
         "refuse" => Err(w.refuse()),
@@ -122,6 +123,35 @@ fn each_call_appends_its_text(rt: HostRuntime) -> std::result::Result<(), Wrong>
     Ok(())
 }
 
+/// Returns whether a writer that watches counts what the calls write as canonical, as expected.
+fn is_counted(alloc: Global, calls: &str, expected: bool) -> Result<bool> {
+    let mut w = Writer::watching(alloc);
+    for word in calls.split(' ') {
+        call(&mut w, word)?;
+    }
+    Ok(w.is_normal() == expected)
+}
+
+const CANONICAL: &str = "null
+seq element one element string=a seq_finish
+map_in_order key=a one map_finish
+map_in_order";
+
+const NOT_KNOWN: &str = "map map_finish
+map_in_order key=a map key=b null map_finish map_finish
+seq map map_finish seq_finish";
+
+#[test]
+fn an_object_in_any_order_ends_what_is_known(rt: HostRuntime) -> std::result::Result<(), Wrong> {
+    expect(!Writer::new(rt.alloc()).is_normal(), "new")?;
+    for (table, expected) in [(CANONICAL, true), (NOT_KNOWN, false)] {
+        for line in table.lines() {
+            expect_ok(is_counted(rt.alloc(), line, expected), line)?;
+        }
+    }
+    Ok(())
+}
+
 const REFUSED: &str = "refuse
 null
 str=a
@@ -131,6 +161,7 @@ seq_finish
 one
 refuse
 map
+map_in_order
 key=a
 map_finish";
 

@@ -1,16 +1,18 @@
 //! What strings, integers and words are written as.
 
 use crate::wrong::{Wrong, expect, expect_ok};
+use miniserde_keys::MapKey;
 use miniserde_model::error::Result;
-use miniserde_ser::ser::{Serialize, Writer, escape_str};
+use miniserde_ser::ser::{Serialize, Writer, escape_str, to_string_and_normal};
 use std::alloc::Global;
 use std::str::FromStr;
 
-/// Returns whether a value is written as expected.
+/// Returns whether a value, whose tree is in normal form, is written as expected.
 fn is_written<T: Serialize>(alloc: Global, value: &T, expected: &str) -> Result<bool> {
     let mut w = Writer::new(alloc);
     value.begin(&mut w)?;
-    Ok(w.into_string()?.as_str() == expected)
+    let (text, is_normal) = to_string_and_normal(alloc, value)?;
+    Ok(is_normal && text.as_str() == expected && w.into_string()?.as_str() == expected)
 }
 
 /// Fails with the first line of a table that is no value of a type, or that is not written as it stands there, if any.
@@ -144,4 +146,22 @@ fn quotes_backslashes_and_control_characters_are_escaped(
         ),
         "control characters in a row",
     )
+}
+
+/// Returns whether one key is known to precede another, and the other not to precede it.
+fn is_before(alloc: Global, name: &str, later: &str) -> Result<bool> {
+    let (name, later) = (
+        String::from_str(alloc, name)?,
+        String::from_str(alloc, later)?,
+    );
+    Ok(name.precedes(&later) && !later.precedes(&name) && !name.precedes(&name))
+}
+
+#[test]
+fn names_precede_in_byte_order(rt: HostRuntime) -> std::result::Result<(), Wrong> {
+    for (name, later) in [("", "a"), ("a", "ab"), ("B", "a"), ("z", "é")] {
+        expect_ok(is_before(rt.alloc(), name, later), name)?;
+    }
+    // Of integers nothing is known: 10 comes before 9 as a name.
+    expect(!9u8.precedes(&10) && !10u8.precedes(&9), "9")
 }

@@ -41,6 +41,14 @@ fn scalars_and_containers_are_stable(rt: HostRuntime) -> std::result::Result<(),
     )?;
     expect_one_value::<Hashed>(alloc, r#"{"b":1,"a":2,"b":3} => {"a":2,"b":3}"#)?;
     expect_canonical_of::<BTreeMap<String, Vec<i8>>>(alloc, CANONICAL)?;
+    expect_canonical_of::<Vec<BTreeMap<u8, u8>>>(
+        alloc,
+        r#"[{"2":0,"10":1},{"7":2}] => [{"10":1,"2":0},{"7":2}]"#,
+    )?;
+    expect_canonical_of::<(BTreeMap<u8, u8>, Option<String>)>(
+        alloc,
+        r#"[{"9":1,"80":2},"b"] => [{"80":2,"9":1},"b"]"#,
+    )?;
     // A map with integer keys is not stable.
     expect_two_values::<BTreeMap<u8, u8>>(
         alloc,
