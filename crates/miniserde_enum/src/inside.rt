@@ -9,6 +9,7 @@ ghost use Rattle.miniserde_read.specs.types.Objects.{Name};
 ghost use Rattle.miniserde_read.specs.Rest.{GivesAt, GivesNoneAt};
 ghost use Rattle.miniserde_read.specs.Events.{EventInRange};
 ghost use Rattle.miniserde_record.specs.Fields.{count_named};
+ghost use Rattle.miniserde_record.specs.InOrder.{KeepsTreesNormal};
 ghost use Rattle.miniserde_record.specs.Structs.{is_new, with_names, members_text};
 ghost use Rattle.miniserde_enum.specs.Internal.{object_members};
 ghost use Rattle.miniserde_enum.specs.Inside.{inside_of};
@@ -48,6 +49,7 @@ pub trait Inside: Ranged + Serialize + FromJson {
         ensures ok { OnOk result (w.new.text
             ≡ w.old.text ++ members_text w.old.first (object_members (Self.tree self.now))) }
         ensures all_in_range { OnOk result (MembersInRange (object_members (Self.tree self.now))) }
+        ensures normal { OnOk result (KeepsTreesNormal w.old (object_members (Self.tree self.now)) w.new) }
         ensures unrefused { OnOk result (w.new.refused ≡ w.old.refused) }
         ensures memory { OnErr result (IsErrOf result Memory) }
         ensures err { OnErr result (w.new.refused ≡ true) };

@@ -9,7 +9,7 @@ use crate::tagged::HasTag;
 use miniserde_keys::Ranged;
 use miniserde_model::error::Result;
 use miniserde_read::{FromJson, Source};
-use miniserde_record::record::{NoSlot, Record, Slots, read_record, write_members};
+use miniserde_record::record::{NoSlot, Record, Slots, read_record, write_members_in_order};
 use miniserde_ser::ser::{Serialize, Writer};
 use miniserde_text::json::lex::Event;
 
@@ -55,7 +55,7 @@ impl Serialize for NoFields {
     ghost tree = { λ v. members no_members };
 
     fn begin(&self, w: &mut Writer) -> Result<()> {
-        write_members(w, &[], &())
+        write_members_in_order(w, &[], &())
     }
 }
 

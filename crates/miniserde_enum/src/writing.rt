@@ -3,6 +3,7 @@ ghost use Rattle.std.specs.Prelude.{◌≡◌, ◌++◌, true, false, map, OnOk,
 ghost use Rattle.miniserde_model.specs.Compact.{compact};
 ghost use Rattle.miniserde_model.specs.InRange.{InRange};
 ghost use Rattle.miniserde_model.specs.declared.error.Error.TheVariants.{Memory};
+ghost use Rattle.miniserde_ser.specs.Writer.{KeepsNormal};
 ghost use Rattle.miniserde_record.specs.Structs.{record_tree};
 ghost use Rattle.miniserde_enum.specs.Tagging.{external, internal};
 ghost use Rattle.miniserde_enum.specs.Cases.{data_tree};
@@ -18,13 +19,14 @@ use miniserde_ser::ser::{Fragment, Serialize, Writer};
 pub fn write_data<T: Serialize>(w: &mut Writer, name: &str, value: &T) -> Result<()>
     ensures ok { OnOk result (w.new.text ≡ w.old.text ++ compact (data_tree external T.tree name.now value.now)) }
     ensures in_range { OnOk result (InRange (data_tree external T.tree name.now value.now)) }
+    ensures normal { OnOk result (KeepsNormal w.old (data_tree external T.tree name.now value.now) w.new) }
     ensures first { OnOk result (w.new.first ≡ false) }
     ensures unrefused { OnOk result (w.new.refused ≡ false) }
     ensures was_running { OnOk result (w.old.refused ≡ false) }
     ensures memory { OnErr result (IsErrOf result Memory) }
     ensures err { OnErr result (w.new.refused ≡ true) }
 {
-    w.map()?;
+    w.map_in_order()?;
     w.key_inline(name)?;
     value.begin(w)?;
     w.map_finish()
@@ -46,13 +48,15 @@ pub fn write_fields<M: Members>(
         ++ compact (data_tree external (record_tree (map (λ n. n.now) names.now) M.trees (λ v. v)) name.now values.now)) }
     ensures in_range { OnOk result (InRange
         (data_tree external (record_tree (map (λ n. n.now) names.now) M.trees (λ v. v)) name.now values.now)) }
+    ensures normal { OnOk result (KeepsNormal w.old
+        (data_tree external (record_tree (map (λ n. n.now) names.now) M.trees (λ v. v)) name.now values.now) w.new) }
     ensures first { OnOk result (w.new.first ≡ false) }
     ensures unrefused { OnOk result (w.new.refused ≡ false) }
     ensures was_running { OnOk result (w.old.refused ≡ false) }
     ensures memory { OnErr result (IsErrOf result Memory) }
     ensures err { OnErr result (w.new.refused ≡ true) }
 {
-    w.map()?;
+    w.map_in_order()?;
     w.key_inline(name)?;
     // The object of the members, with its brackets.
     write_members(w, names, values)?;
@@ -67,6 +71,7 @@ pub fn write_tagged<T: Inside>(w: &mut Writer, tag: &str, name: &str, value: &T)
     ensures ok { OnOk result (w.new.text
         ≡ w.old.text ++ compact (data_tree (internal tag.now) T.tree name.now value.now)) }
     ensures in_range { OnOk result (InRange (data_tree (internal tag.now) T.tree name.now value.now)) }
+    ensures normal { OnOk result (KeepsNormal w.old (data_tree (internal tag.now) T.tree name.now value.now) w.new) }
     ensures first { OnOk result (w.new.first ≡ false) }
     ensures unrefused { OnOk result (w.new.refused ≡ false) }
     ensures was_running { OnOk result (w.old.refused ≡ false) }
@@ -97,6 +102,8 @@ pub fn write_tagged_fields<M: Members>(
         (data_tree (internal tag.now) (record_tree (map (λ n. n.now) names.now) M.trees (λ v. v)) name.now values.now)) }
     ensures in_range { OnOk result (InRange
         (data_tree (internal tag.now) (record_tree (map (λ n. n.now) names.now) M.trees (λ v. v)) name.now values.now)) }
+    ensures normal { OnOk result (KeepsNormal w.old
+        (data_tree (internal tag.now) (record_tree (map (λ n. n.now) names.now) M.trees (λ v. v)) name.now values.now) w.new) }
     ensures first { OnOk result (w.new.first ≡ false) }
     ensures unrefused { OnOk result (w.new.refused ≡ false) }
     ensures was_running { OnOk result (w.old.refused ≡ false) }

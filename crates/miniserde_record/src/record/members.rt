@@ -4,6 +4,8 @@ ghost use Rattle.miniserde_model.specs.Tree.{Tree, members};
 ghost use Rattle.miniserde_model.specs.Compact.{compact};
 ghost use Rattle.miniserde_model.specs.InRange.{InRange, MembersInRange};
 ghost use Rattle.miniserde_model.specs.declared.error.Error.TheVariants.{Memory};
+ghost use Rattle.miniserde_ser.specs.Writer.{KeepsNormal};
+ghost use Rattle.miniserde_record.specs.InOrder.{names_rise, KeepsTreesNormal};
 ghost use Rattle.miniserde_record.specs.Structs.{with_names, members_text};
 
 use super::structs::Parts;
@@ -24,6 +26,8 @@ pub trait Members {
             ++ members_text w.old.first (with_names (map (λ n. n.now) names.now) (trees self.now))) }
         ensures all_in_range { OnOk result (MembersInRange
             (with_names (map (λ n. n.now) names.now) (trees self.now))) }
+        ensures normal { OnOk result (KeepsTreesNormal w.old
+            (with_names (map (λ n. n.now) names.now) (trees self.now)) w.new) }
         ensures unrefused { OnOk result (w.new.refused ≡ w.old.refused) }
         ensures memory { OnErr result (IsErrOf result Memory) }
         ensures err { OnErr result (w.new.refused ≡ true) };
@@ -96,6 +100,8 @@ pub fn write_members<M: Members>(w: &mut Writer, names: &[&str], values: &M) -> 
         ++ compact (members (with_names (map (λ n. n.now) names.now) (M.trees values.now)))) }
     ensures in_range { OnOk result (InRange
         (members (with_names (map (λ n. n.now) names.now) (M.trees values.now)))) }
+    ensures normal { OnOk result (KeepsNormal w.old
+        (members (with_names (map (λ n. n.now) names.now) (M.trees values.now))) w.new) }
     ensures first { OnOk result (w.new.first ≡ false) }
     ensures unrefused { OnOk result (w.new.refused ≡ false) }
     ensures was_running { OnOk result (w.old.refused ≡ false) }
@@ -103,6 +109,28 @@ pub fn write_members<M: Members>(w: &mut Writer, names: &[&str], values: &M) -> 
     ensures err { OnErr result (w.new.refused ≡ true) }
 {
     w.map()?;
+    values.write(w, names)?;
+    w.map_finish()
+}
+
+/// Writes an object as `write_members` does. The names must rise in byte order, so a writer that finds out whether its
+/// text is canonical goes on to do so. Returns `Memory` if the writer fails.
+#[inline(always)]
+pub fn write_members_in_order<M: Members>(w: &mut Writer, names: &[&str], values: &M) -> Result<()>
+    requires in_order { names_rise (map (λ n. n.now) names.now) ≡ true }
+    ensures ok { OnOk result (w.new.text ≡ w.old.text
+        ++ compact (members (with_names (map (λ n. n.now) names.now) (M.trees values.now)))) }
+    ensures in_range { OnOk result (InRange
+        (members (with_names (map (λ n. n.now) names.now) (M.trees values.now)))) }
+    ensures normal { OnOk result (KeepsNormal w.old
+        (members (with_names (map (λ n. n.now) names.now) (M.trees values.now))) w.new) }
+    ensures first { OnOk result (w.new.first ≡ false) }
+    ensures unrefused { OnOk result (w.new.refused ≡ false) }
+    ensures was_running { OnOk result (w.old.refused ≡ false) }
+    ensures memory { OnErr result (IsErrOf result Memory) }
+    ensures err { OnErr result (w.new.refused ≡ true) }
+{
+    w.map_in_order()?;
     values.write(w, names)?;
     w.map_finish()
 }

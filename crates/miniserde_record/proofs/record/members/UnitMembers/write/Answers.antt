@@ -8,3 +8,6 @@ returns-clause-ok c = rw (with_names_none (map (λ n. n.now) c.args._names.now),
 
 pub returns-clause-all_in_range : goal.returns-clause-all_in_range
 returns-clause-all_in_range c = rw (with_names_none (map (λ n. n.now) c.args._names.now)) tt
+
+pub returns-clause-normal : goal.returns-clause-normal
+returns-clause-normal c = rw (with_names_none (map (λ n. n.now) c.args._names.now)) (λ h. (h, tt))
