@@ -14,17 +14,17 @@ use Rattle.miniserde_model.specs.declared.kind.Kind.{Kind}
 use Rattle.miniserde_model.specs.declared.kind.Kind.TheVariants as kind
 use Rattle.miniserde_text.specs.declared.json.lex.Event as token
 use Rattle.miniserde_text.specs.declared.json.lex.Event.TheVariants as variant
-use Rattle.miniserde_text.specs.private.Stack.{with_opened, outer, innermost as innermost_kind}
+use Rattle.miniserde_text.specs.private.Stack.{with_opened, outer, innermost}
 use Rattle.miniserde_text.specs.private.Moments.{opened_kind, first_or_after, MomentFits}
 use Rattle.miniserde_read.specs.Rest.{ValueAt}
 use Rattle.miniserde_text.specs.private.EventRuns.{Runs, Consumes, NeverRuns}
 use Rattle.miniserde_text.proofs.Consumes.{Consumes-none, Consumes-append, close_passed, element_passed, key_passed}
 use Rattle.miniserde_text.proofs.Consumes.{value_passed, live_opened}
 use Rattle.miniserde_read.proofs.Values.{value_later, whole_at}
-use Rattle.miniserde_value.specs.Hole.{Hole, outside, in_list, in_members, has_member, put, with_name, after_close}
+use Rattle.miniserde_value.specs.Hole.{Hole, outside, in_list, in_members, has_member, with_tree, with_name, after_close}
 use Rattle.miniserde_value.specs.Hole.{complete_tree, after_begin, after_step, repeats, outcome}
 use Rattle.miniserde_value.specs.Retained.{retained_tree, retained_if}
-use Rattle.miniserde_value.specs.Containers.{innermost, pending, with_next_name}
+use Rattle.miniserde_value.specs.Containers.{innermost_kind, pending, with_next_name}
 use Rattle.miniserde_value.specs.laws.Unique.{gives-retained}
 use Rattle.miniserde_value.specs.private.Builds.{ReaderState, state_before, state_due, outcome_at, Builds, HoleAdvancesBy}
 use Rattle.miniserde_value.specs.private.Builds.{NeverGives, kinds, is_due}
@@ -33,12 +33,12 @@ use Rattle.miniserde_value.specs.private.Builds.{NeverGives, kinds, is_due}
 
 -- The stack of kinds, of which the lexer's lemmas speak, has on top the kind of the hole's innermost container. So what
 -- a hole says serves the lemmas on closing brackets, elements and keys.
-pub innermost_of_kinds : (h : Hole) → innermost_kind (kinds h) ≡ (innermost h)
+pub innermost_of_kinds : (h : Hole) → innermost (kinds h) ≡ (innermost_kind h)
 innermost_of_kinds (outside ts) = refl
 innermost_of_kinds (in_list ts h) = refl
 innermost_of_kinds (in_members ms n h) = refl
 
-kinds_put : (t : Tree) (h : Hole) → kinds (put t h) ≡ kinds h
+kinds_put : (t : Tree) (h : Hole) → kinds (with_tree t h) ≡ kinds h
 kinds_put t (outside ts) = refl
 kinds_put t (in_list ts h) = refl
 kinds_put t (in_members ms None h) = refl
@@ -49,8 +49,8 @@ kinds_closed (outside ts) = refl
 kinds_closed (in_list ts h) = kinds_put _ h
 kinds_closed (in_members ms n h) = kinds_put _ h
 
-kinds_some : (t : Tree) (h g : Hole) → ◌≡◌ {A = Option Hole} (Some (put t h)) (Some g) → kinds g ≡ kinds h
-kinds_some t h g e = let i : g ≡ put t h = cc in ap kinds i ∙ kinds_put t h
+kinds_some : (t : Tree) (h g : Hole) → ◌≡◌ {A = Option Hole} (Some (with_tree t h)) (Some g) → kinds g ≡ kinds h
+kinds_some t h g e = let i : g ≡ with_tree t h = cc in ap kinds i ∙ kinds_put t h
 
 kinds_begun : (e : Step) (h g : Hole) → after_begin e h ≡ Some g → kinds g ≡ with_opened (opened_kind e) (kinds h)
 kinds_begun step.null h g b = kinds_some _ h g b
@@ -78,7 +78,7 @@ begins variant.MapStart scratch h e = absurd (cc)
 
 -- ---- the name of the next value
 
-pending_put : (t : Tree) (h : Hole) → pending (put t h) ≡ None
+pending_put : (t : Tree) (h : Hole) → pending (with_tree t h) ≡ None
 pending_put t (outside ts) = refl
 pending_put t (in_list ts h) = refl
 pending_put t (in_members ms None h) = refl
@@ -117,18 +117,18 @@ goes_on once false h e n t es =
     let rest : Bool × Hole → Option Tree = λ s. outcome once s.0 s.1 es in
     ap (λ z. option_and_then rest (cond z None (after_step false h e))) n ∙ ap (option_and_then rest) t
 
-closes_hole : (once : Bool) (h : Hole) (k : Kind) → innermost h ≡ Some k → (es : List Step)
+closes_hole : (once : Bool) (h : Hole) (k : Kind) → innermost_kind h ≡ Some k → (es : List Step)
     → outcome once false h (finish ∷ es) ≡ outcome once false (after_close h) es
 closes_hole once (outside ts) k i es = absurd (cc)
 closes_hole once (in_list ts h) k i es = goes_on once false (in_list ts h) finish (and-false once) refl es
 closes_hole once (in_members ms n h) k i es = goes_on once false (in_members ms n h) finish (and-false once) refl es
 
-close_makes : (once : Bool) (h : Hole) (s r : List ℕ) (k : Kind) (f : Bool) → innermost h ≡ Some k
+close_makes : (once : Bool) (h : Hole) (s r : List ℕ) (k : Kind) (f : Bool) → innermost_kind h ≡ Some k
     → HoleAdvancesBy once (state_before f h s) (finish ∷ []) (state_before false (after_close h) r)
 close_makes once h s r k f i = λ es. ap (λ z. outcome once z h (finish ∷ es)) (not_due f) ∙ closes_hole once h k i es
 
 -- if the closing bracket of the innermost container is next, the text builds the hole after the close
-pub close_builds : (once : Bool) (h : Hole) {s r : List ℕ} (k : Kind) (f : Bool) → innermost h ≡ Some k
+pub close_builds : (once : Bool) (h : Hole) {s r : List ℕ} (k : Kind) (f : Bool) → innermost_kind h ≡ Some k
     → Follows k f true s r → Builds once (state_before f h s) (state_before false (after_close h) r)
 close_builds once h {s = s} {r = r} k f i p = record {
   done = finish ∷ [];
@@ -137,19 +137,19 @@ close_builds once h {s = s} {r = r} k f i p = record {
   repeats_none = close_makes once h s r k f i;
 }
 
-goes_to_element : (once : Bool) (h : Hole) (k : Kind) → innermost h ≡ Some k → k ≡ kind.Seq → (es : List Step)
+goes_to_element : (once : Bool) (h : Hole) (k : Kind) → innermost_kind h ≡ Some k → k ≡ kind.Seq → (es : List Step)
     → outcome once false h (element ∷ es) ≡ outcome once true h es
 goes_to_element once (outside ts) k i q es = absurd (cc)
 goes_to_element once (in_list ts h) k i q es = goes_on once false (in_list ts h) element (and-false once) refl es
 goes_to_element once (in_members ms n h) k i q es = absurd (cc)
 
-element_makes : (once : Bool) (h : Hole) (s r : List ℕ) {k : Kind} (f : Bool) → innermost h ≡ Some k → k ≡ kind.Seq
+element_makes : (once : Bool) (h : Hole) (s r : List ℕ) {k : Kind} (f : Bool) → innermost_kind h ≡ Some k → k ≡ kind.Seq
     → HoleAdvancesBy once (state_before f h s) (element ∷ []) (state_due h r)
 element_makes once h s r {k = k} f i q = λ es. ap (λ z. outcome once z h (element ∷ es)) (not_due f) ∙ goes_to_element once h k i q es
 
 -- if the innermost container is an array and an element is next, the event `element` leaves the hole as it is, and a
 -- value is due
-pub element_builds : (once : Bool) (h : Hole) {s r : List ℕ} (k : Kind) (f : Bool) → innermost h ≡ Some k
+pub element_builds : (once : Bool) (h : Hole) {s r : List ℕ} (k : Kind) (f : Bool) → innermost_kind h ≡ Some k
     → k ≡ kind.Seq → Follows k f false s r → Builds once (state_before f h s) (state_due h r)
 element_builds once h {s = s} {r = r} k f i q p = record {
   done = element ∷ [];
@@ -164,12 +164,12 @@ pub record MemberNext (h : Hole) (opened : Bool) (s n u : List ℕ) : Type 0 whe
   pub container : Kind
   -- the text from the name on
   pub names : List ℕ
-  pub inside : innermost h ≡ Some container
+  pub inside : innermost_kind h ≡ Some container
   pub is_object : container ≡ kind.Map
   pub follows : Follows container opened false s names
   pub is_name : Names names n u
 
-goes_to_member : (once : Bool) (h : Hole) (n : List ℕ) {k : Kind} → innermost h ≡ Some k → k ≡ kind.Map
+goes_to_member : (once : Bool) (h : Hole) (n : List ℕ) {k : Kind} → innermost_kind h ≡ Some k → k ≡ kind.Map
     → (once && has_member n h) ≡ false → (es : List Step)
     → outcome once false h (key n ∷ es) ≡ outcome once true (with_name n h) es
 goes_to_member once (outside ts) n i q l es = absurd (cc)
@@ -262,10 +262,10 @@ same_stack (Some k) st e = absurd (cc)
 
 -- a leaf, with a name or without one, leaves the innermost container open
 pub leaf_stays : (n : Option (List ℕ)) (e : Step) (h g : Hole) → after_begin e (with_next_name n h) ≡ Some g
-    → false ≡ is_some (opened_kind e) → innermost g ≡ innermost h
+    → false ≡ is_some (opened_kind e) → innermost_kind g ≡ innermost_kind h
 leaf_stays n e h g b f =
     sym (innermost_of_kinds g)
-    ∙ ap innermost_kind (kinds_begun e (with_next_name n h) g b ∙ same_stack (opened_kind e) _ f ∙ kinds_next n h)
+    ∙ ap innermost (kinds_begun e (with_next_name n h) g b ∙ same_stack (opened_kind e) _ f ∙ kinds_next n h)
     ∙ innermost_of_kinds h
 
 -- ---- what can give no value
@@ -315,7 +315,7 @@ builds_init once e h f s q b =
     })
 
 -- no container is left open
-pub read_ok : (once : Bool) (x : token.Event) (scratch : List ℕ) {s r : List ℕ} (f : Bool) (g : Hole) → innermost g ≡ None
+pub read_ok : (once : Bool) (x : token.Event) (scratch : List ℕ) {s r : List ℕ} (f : Bool) (g : Hole) → innermost_kind g ≡ None
     → BuiltSince once (event_of_token x scratch) s (state_before f g r)
     → (t : Tree) × ValueAt t (event_of_token x scratch) s r × (complete_tree g ≡ Some (retained_tree t))
     × (complete_tree g ≡ retained_if once t)

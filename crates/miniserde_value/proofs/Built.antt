@@ -3,18 +3,18 @@ use Rattle.std.proofs.Common.{◌≡◌, List, [], ◌∷◌, ◌++◌, Some, No
 use Rattle.miniserde_model.specs.Tree.{Tree, list, members, Trees, no_trees, tree, Members, no_members, member}
 use Rattle.miniserde_model.specs.Normal.{put as put_member}
 use Rattle.miniserde_value.specs.Retained.{retained_tree, retained_children}
-use Rattle.miniserde_value.specs.Hole.{Hole, in_list, in_members, put}
+use Rattle.miniserde_value.specs.Hole.{Hole, in_list, in_members, with_tree}
 use Rattle.miniserde_value.specs.laws.Listed.{listed, trees_listed, put_retained, puts_retained}
 use Rattle.miniserde_value.specs.Visits.{TreeVisit, list_ends, members_end, visits, child_visits, member_visits, hole_after}
 
 mutual
   pub built_visits : (h : Hole) (t : Tree) (rest : List TreeVisit)
-      → hole_after h (visits t rest) ≡ hole_after (put (retained_tree t) h) rest
+      → hole_after h (visits t rest) ≡ hole_after (with_tree (retained_tree t) h) rest
   built_visits h (list ts) rest =
-      built_children ts [] h (list_ends ∷ rest) ∙ ap (λ z. hole_after (put (list z) h) rest)
+      built_children ts [] h (list_ends ∷ rest) ∙ ap (λ z. hole_after (with_tree (list z) h) rest)
       (trees_listed (retained_children ts))
   built_visits h (members ms) rest = built_members ms no_members h (members_end ∷ rest)
-      ∙ ap (λ z. hole_after (put (members z) h) rest) (puts_retained ms)
+      ∙ ap (λ z. hole_after (with_tree (members z) h) rest) (puts_retained ms)
   built_visits h _ rest = refl
 
   pub built_children : (ts : Trees) (us : List Tree) (h : Hole) (rest : List TreeVisit)

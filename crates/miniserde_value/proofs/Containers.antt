@@ -10,9 +10,9 @@ use Rattle.miniserde_value.specs.declared.json.builder.OpenObject.{OpenObject}
 use Rattle.miniserde_value.specs.declared.json.builder.OpenContainer.{OpenContainer}
 use Rattle.miniserde_value.specs.declared.json.builder.OpenContainer.TheVariants as container
 use Rattle.miniserde_model.specs.declared.kind.Kind.TheVariants as kind
-use Rattle.miniserde_value.specs.Hole.{Hole, in_list, put, complete_tree}
+use Rattle.miniserde_value.specs.Hole.{Hole, in_list, with_tree, complete_tree}
 use Rattle.miniserde_value.specs.Values.{content_of}
-use Rattle.miniserde_value.specs.Containers.{with_open_object, outer_objects, hole_of, innermost, pending, next_name, first_next_name, Fits}
+use Rattle.miniserde_value.specs.Containers.{with_open_object, outer_objects, hole_of, innermost_kind, pending, next_name, first_next_name, Fits}
 use Rattle.miniserde_value.proofs.Lasts.{reverse_added, reverse_last, reverse_set, reverse_ends}
 
 -- marks that fit still fit where there are more values
@@ -90,14 +90,14 @@ object_changed {k = k} {o = o} f vs os p ms i h =
 
 -- if an object is the innermost container, it is the first of the open containers
 pub object_on_top : (vs : List Tree) (os : List OpenObject) (ms : List OpenContainer)
-    → innermost (hole_of vs os ms) ≡ Some kind.Map → (below : List OpenContainer) × (ms ≡ container.Object ∷ below)
+    → innermost_kind (hole_of vs os ms) ≡ Some kind.Map → (below : List OpenContainer) × (ms ≡ container.Object ∷ below)
 object_on_top vs os [] e = absurd (cc)
 object_on_top vs os (container.Array v ∷ ms) e = absurd (cc)
 object_on_top vs os (container.Object ∷ ms) e = (ms, refl)
 
 -- if an object is the innermost container, an object is open
 pub object_is_open : (n : ℕ) (vs : List Tree) (os : List OpenObject) (ms : List OpenContainer)
-    → Fits n (reverse os) (reverse ms) → innermost (hole_of vs (reverse os) (reverse ms)) ≡ Some kind.Map → 0 < length os
+    → Fits n (reverse os) (reverse ms) → innermost_kind (hole_of vs (reverse os) (reverse ms)) ≡ Some kind.Map → 0 < length os
 object_is_open n vs os ms f e =
     let top = object_on_top vs (reverse os) (reverse ms) e in
     let some = (subst (λ (ns : List OpenContainer). Fits n (reverse os) ns) top.1 f).0 in
@@ -113,7 +113,7 @@ pending_last {k = k} {o = o} vs os ms i =
 -- ---- where an array is the innermost container, its items alone change
 
 item_added : (vs : List Tree) (t : Tree) (os : List OpenObject) (ms : List OpenContainer) → Fits (length vs) os ms
-    → innermost (hole_of vs os ms) ≡ Some kind.Seq → hole_of (vs ++ t ∷ []) os ms ≡ put t (hole_of vs os ms)
+    → innermost_kind (hole_of vs os ms) ≡ Some kind.Seq → hole_of (vs ++ t ∷ []) os ms ≡ with_tree t (hole_of vs os ms)
 item_added vs t os [] f e = absurd (cc)
 item_added vs t os (container.Array v ∷ ms) f e =
     ap₂ (λ (ts us : List Tree). in_list ts (hole_of us os ms)) (drop-append-le v vs (t ∷ []) f.0)
@@ -122,8 +122,8 @@ item_added vs t os (container.Object ∷ ms) f e = absurd (cc)
 
 -- if an array is the innermost container, to add v to the values is to put v into the hole
 pub item_put : {new : List Value} (old : List Value) (v : Value) (os : List OpenObject) (ms : List OpenContainer) → new ≡ old ++ v ∷ []
-    → Fits (length old) os ms → innermost (hole_of (map content_of old) os ms) ≡ Some kind.Seq
-    → hole_of (map content_of new) os ms ≡ put (content_of v) (hole_of (map content_of old) os ms)
+    → Fits (length old) os ms → innermost_kind (hole_of (map content_of old) os ms) ≡ Some kind.Seq
+    → hole_of (map content_of new) os ms ≡ with_tree (content_of v) (hole_of (map content_of old) os ms)
 item_put old v os ms e f i =
     ap (λ (l : List Value). hole_of (map content_of l) os ms) e
     ∙ ap (λ (l : List Tree). hole_of l os ms) (map-append content_of old (v ∷ []))

@@ -60,10 +60,10 @@ abbrev pub ContainersFit : List Value → List OpenObject → List OpenContainer
 ContainersFit vs os ms = Fits (length vs) (reverse os) (reverse ms)
 
 -- the kind of the innermost open container, if one is open
-abbrev pub innermost : Hole → Option Kind
-innermost (outside ts) = None
-innermost (in_list ts h) = Some kind.Seq
-innermost (in_members ms n h) = Some kind.Map
+abbrev pub innermost_kind : Hole → Option Kind
+innermost_kind (outside ts) = None
+innermost_kind (in_list ts h) = Some kind.Seq
+innermost_kind (in_members ms n h) = Some kind.Map
 
 -- the kind of a container whose next child has this name, if it has one
 abbrev pub kind_around : Option (List ℕ) → Kind

@@ -20,11 +20,11 @@ pub data Hole : Type 0 where
 -- The hole after a value is added to its innermost container, or to the complete values if none is
 -- open. In an object the value goes under the name that came for it, and replaces a value of that
 -- name; without a name it is dropped.
-abbrev pub put : Tree → Hole → Hole
-put t (outside ts) = outside (ts ++ t ∷ [])
-put t (in_list ts h) = in_list (ts ++ t ∷ []) h
-put t (in_members ms None h) = in_members ms None h
-put t (in_members ms (Some n) h) = in_members (put_member n t ms) None h
+abbrev pub with_tree : Tree → Hole → Hole
+with_tree t (outside ts) = outside (ts ++ t ∷ [])
+with_tree t (in_list ts h) = in_list (ts ++ t ∷ []) h
+with_tree t (in_members ms None h) = in_members ms None h
+with_tree t (in_members ms (Some n) h) = in_members (put_member n t ms) None h
 
 -- the hole with n as the name of the next value, if its innermost container is an object; else the
 -- same hole
@@ -43,8 +43,8 @@ has_member n (in_members ms k h) = is_some (last_of n ms)
 -- hole around it; the name of a value that has not come is dropped
 abbrev pub after_close : Hole → Hole
 after_close (outside ts) = outside ts
-after_close (in_list ts h) = put (list (trees_of (λ t. t) ts)) h
-after_close (in_members ms n h) = put (members ms) h
+after_close (in_list ts h) = with_tree (list (trees_of (λ t. t) ts)) h
+after_close (in_members ms n h) = with_tree (members ms) h
 
 -- how many containers are open
 abbrev pub depth : Hole → ℕ
@@ -68,12 +68,12 @@ complete_tree (in_members ms n h) = None
 
 -- the hole h after an event that is the first of a value; any other event gives nothing
 abbrev pub after_begin : Step → Hole → Option Hole
-after_begin step.null h = Some (put null h)
-after_begin (boolean b) h = Some (put (truth b) h)
-after_begin (string s) h = Some (put (str s) h)
-after_begin (negative z) h = Some (put (neg z) h)
-after_begin (nonnegative n) h = Some (put (nonneg n) h)
-after_begin (float x) h = Some (put (num x) h)
+after_begin step.null h = Some (with_tree null h)
+after_begin (boolean b) h = Some (with_tree (truth b) h)
+after_begin (string s) h = Some (with_tree (str s) h)
+after_begin (negative z) h = Some (with_tree (neg z) h)
+after_begin (nonnegative n) h = Some (with_tree (nonneg n) h)
+after_begin (float x) h = Some (with_tree (num x) h)
 after_begin seq h = Some (in_list [] h)
 after_begin map h = Some (in_members no_members None h)
 after_begin element h = None

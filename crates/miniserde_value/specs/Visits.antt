@@ -4,7 +4,7 @@ use Rattle.miniserde_model.specs.Tree.{Tree, list, members, Trees, no_trees, tre
 use Rattle.miniserde_model.specs.Compact.{compact, string_text}
 use Rattle.miniserde_model.specs.InRange.{InRange}
 use Rattle.miniserde_model.specs.Normal.{norm, Rise}
-use Rattle.miniserde_value.specs.Hole.{Hole, put, with_name, after_close, in_list, in_members}
+use Rattle.miniserde_value.specs.Hole.{Hole, with_tree, with_name, after_close, in_list, in_members}
 
 -- a visit: a leaf, the beginning or the end of a container, the name of a member, or the beginning of an element
 pub data TreeVisit : Type 0 where
@@ -91,7 +91,7 @@ VisitsInRange (_ ∷ fs) = VisitsInRange fs
 -- the hole after the visits, from the hole h on
 abbrev pub hole_after : Hole → List TreeVisit → Hole
 hole_after h [] = h
-hole_after h (leaf t ∷ fs) = hole_after (put t h) fs
+hole_after h (leaf t ∷ fs) = hole_after (with_tree t h) fs
 hole_after h (list_begins ∷ fs) = hole_after (in_list [] h) fs
 hole_after h (element ∷ fs) = hole_after h fs
 hole_after h (list_ends ∷ fs) = hole_after (after_close h) fs

@@ -6,13 +6,13 @@ use Rattle.miniserde_model.specs.Tree.{tree, Members, no_members, member}
 use Rattle.miniserde_model.specs.Normal.{put as put_member}
 use Rattle.miniserde_model.specs.Step.{Step, finish, events, child_events, member_events}
 use Rattle.miniserde_value.specs.Retained.{retained_tree, retained_children}
-use Rattle.miniserde_value.specs.Hole.{Hole, outside, in_list, in_members, put, outcome}
+use Rattle.miniserde_value.specs.Hole.{Hole, outside, in_list, in_members, with_tree, outcome}
 use Rattle.miniserde_value.specs.OnlyContainers.{only_list, only_members}
 use Rattle.miniserde_value.specs.laws.Listed.{listed, trees_listed, put_retained, puts_retained}
 
 mutual
   pub outcome_events : (h : Hole) (t : Tree) (rest : List Step) → outcome false true h (events t ++ rest)
-      ≡ outcome false false (put (retained_tree t) h) rest
+      ≡ outcome false false (with_tree (retained_tree t) h) rest
   outcome_events h null rest = refl
   outcome_events h (truth b) rest = refl
   outcome_events h (nonneg n) rest = refl
@@ -22,11 +22,11 @@ mutual
   outcome_events h (list ts) rest =
       ap (outcome false false (in_list [] h)) (append_assoc (child_events ts) (finish ∷ []) rest)
       ∙ outcome_children ts [] h (finish ∷ rest)
-      ∙ ap (λ z. outcome false false (put (list z) h) rest) (trees_listed (retained_children ts))
+      ∙ ap (λ z. outcome false false (with_tree (list z) h) rest) (trees_listed (retained_children ts))
   outcome_events h (members ms) rest =
       ap (outcome false false (in_members no_members None h)) (append_assoc (member_events ms) (finish ∷ []) rest)
       ∙ outcome_members ms no_members h (finish ∷ rest)
-      ∙ ap (λ z. outcome false false (put (members z) h) rest) (puts_retained ms)
+      ∙ ap (λ z. outcome false false (with_tree (members z) h) rest) (puts_retained ms)
 
   pub outcome_children : (ts : Trees) (us : List Tree) (h : Hole) (rest : List Step)
       → outcome false false (in_list us h) (child_events ts ++ rest) ≡ outcome false false

@@ -11,7 +11,7 @@ use Rattle.miniserde_model.specs.Step.{Step, finish, events, child_events, membe
 use Rattle.miniserde_model.specs.Distinct.{has_name, names_distinct, names_distinct_in_children, names_distinct_in_members}
 use Rattle.miniserde_model.specs.Normal.{text_cmp, or_else, last_of, put as put_member, put_first_by}
 use Rattle.miniserde_value.specs.Retained.{retained_tree, retained_children, retained_if}
-use Rattle.miniserde_value.specs.Hole.{Hole, outside, in_list, in_members, put, outcome}
+use Rattle.miniserde_value.specs.Hole.{Hole, outside, in_list, in_members, with_tree, outcome}
 use Rattle.miniserde_value.specs.laws.Outcomes.{outcome-whole}
 use Rattle.miniserde_value.specs.laws.Listed.{listed, put_retained, trees_listed, puts_retained}
 
@@ -109,7 +109,7 @@ repeated false x f = refl
 
 mutual
   pub once_events : (h : Hole) (t : Tree) (rest : List Step) → outcome true true h (events t ++ rest)
-      ≡ if_so (names_distinct t) (outcome true false (put (retained_tree t) h) rest)
+      ≡ if_so (names_distinct t) (outcome true false (with_tree (retained_tree t) h) rest)
   once_events h null rest = refl
   once_events h (truth b) rest = refl
   once_events h (nonneg n) rest = refl
@@ -119,11 +119,11 @@ mutual
   once_events h (list ts) rest =
       ap (outcome true false (in_list [] h)) (append_assoc (child_events ts) (finish ∷ []) rest)
       ∙ once_children ts [] h (finish ∷ rest)
-      ∙ ap (λ z. if_so (names_distinct_in_children ts) (outcome true false (put (list z) h) rest)) (trees_listed (retained_children ts))
+      ∙ ap (λ z. if_so (names_distinct_in_children ts) (outcome true false (with_tree (list z) h) rest)) (trees_listed (retained_children ts))
   once_events h (members ms) rest =
       ap (outcome true false (in_members no_members None h)) (append_assoc (member_events ms) (finish ∷ []) rest)
       ∙ once_members ms no_members h (finish ∷ rest)
-      ∙ ap₂ (λ b z. if_so b (outcome true false (put (members z) h) rest)) (all_fresh (names_distinct_in_members ms) ms) (puts_retained ms)
+      ∙ ap₂ (λ b z. if_so b (outcome true false (with_tree (members z) h) rest)) (all_fresh (names_distinct_in_members ms) ms) (puts_retained ms)
 
   pub once_children : (ts : Trees) (us : List Tree) (h : Hole) (rest : List Step)
       → outcome true false (in_list us h) (child_events ts ++ rest) ≡ if_so (names_distinct_in_children ts)

@@ -6,9 +6,9 @@ ghost use Rattle.miniserde_model.specs.Tree.{no_members};
 ghost use Rattle.miniserde_model.specs.Normal.{last_of};
 ghost use Rattle.miniserde_text.specs.private.Moments.{opened_kind};
 ghost use Rattle.miniserde_read.specs.Events.{event_of, EventInRange, leaf_of};
-ghost use Rattle.miniserde_value.specs.Hole.{Hole, outside, in_list, in_members, put, with_name, after_close, complete_tree, has_member, after_begin};
+ghost use Rattle.miniserde_value.specs.Hole.{Hole, outside, in_list, in_members, with_tree, with_name, after_close, complete_tree, has_member, after_begin};
 ghost use Rattle.miniserde_value.specs.Values.{content_of};
-ghost use Rattle.miniserde_value.specs.Containers.{ContainersFit, innermost, made_members, next_name, with_open_object};
+ghost use Rattle.miniserde_value.specs.Containers.{ContainersFit, innermost_kind, made_members, next_name, with_open_object};
 ghost use Rattle.miniserde_value.specs.Containers.{kind_around, pending, with_next_name};
 ghost use Rattle.miniserde_value.specs.laws.Containers.{containers-fit-once};
 
@@ -61,7 +61,7 @@ impl OpenObject {
     /// Adds a value under the name that was set for it, and replaces an earlier value of that name. If no
     /// name was set, drops the value and returns `Ok`. Fails if the map cannot grow.
     pub(crate) fn put(&mut self, value: Value) -> result::Result<(), AllocError>
-        ensures { OnOk result ((h : Hole) → with_open_object self.new h ≡ put (content_of value) (with_open_object self.old h)) }
+        ensures { OnOk result ((h : Hole) → with_open_object self.new h ≡ with_tree (content_of value) (with_open_object self.old h)) }
     {
         match self.name.take() {
             Some(name) => self.members.insert(name, value),
@@ -151,7 +151,7 @@ impl Builder {
     /// Returns the kind of the innermost open container, or `None` if none is open.
     #[inline(always)]
     pub fn innermost(&self) -> Option<Kind>
-        ensures { result ≡ innermost (hole_in self.now) }
+        ensures { result ≡ innermost_kind (hole_in self.now) }
     {
         match self.containers.last() {
             None => None,
@@ -176,7 +176,7 @@ impl Builder {
     /// without a name for it, the value is dropped, and the call returns `Ok`. Fails if an allocation fails.
     #[inline(always)]
     pub(crate) fn put(&mut self, value: Value) -> result::Result<(), AllocError>
-        ensures { OnOk result (hole_in self.new ≡ put (content_of value) (hole_in self.old)) }
+        ensures { OnOk result (hole_in self.new ≡ with_tree (content_of value) (hole_in self.old)) }
     {
         if let Some(OpenContainer::Object) = self.containers.last() {
             return match self.objects.last_mut() {
@@ -192,10 +192,10 @@ impl Builder {
     /// without one if it is an array. Fails if an allocation fails.
     #[inline(always)]
     fn put_child(&mut self, name: Option<String>, value: Value) -> result::Result<(), AllocError>
-        requires inside { innermost (hole_in self.old) ≡ Some (kind_around (option_map string_bytes name)) }
+        requires inside { innermost_kind (hole_in self.old) ≡ Some (kind_around (option_map string_bytes name)) }
         requires unnamed { pending (hole_in self.old) ≡ None }
         ensures { OnOk result (hole_in self.new
-            ≡ put (content_of value) (with_next_name (option_map string_bytes name) (hole_in self.old))) }
+            ≡ with_tree (content_of value) (with_next_name (option_map string_bytes name) (hole_in self.old))) }
     {
         match name {
             Some(name) => match self.objects.last_mut() {
@@ -209,7 +209,7 @@ impl Builder {
     /// Sets the name of the next value, if there is one: then the innermost open container is an object.
     #[inline(always)]
     fn set_name(&mut self, name: Option<String>)
-        requires { innermost (hole_in self.old) ≡ Some (kind_around (option_map string_bytes name)) }
+        requires { innermost_kind (hole_in self.old) ≡ Some (kind_around (option_map string_bytes name)) }
         ensures { hole_in self.new ≡ with_next_name (option_map string_bytes name) (hole_in self.old) }
     {
         if let Some(name) = name {
@@ -274,7 +274,7 @@ impl Builder {
     /// container is an object, or without one if it is an array.
     #[inline(always)]
     pub(crate) fn begin_child(&mut self, name: Option<String>, event: Step<'_>) -> Result<bool>
-        requires inside { innermost (hole_in self.old) ≡ Some (kind_around (option_map string_bytes name)) }
+        requires inside { innermost_kind (hole_in self.old) ≡ Some (kind_around (option_map string_bytes name)) }
         requires unnamed { pending (hole_in self.old) ≡ None }
         requires event { EventInRange (event_of event) }
         ensures opens { IfOk result (λ opens. opens ≡ is_some (opened_kind (event_of event.entry))) }

@@ -8,7 +8,7 @@ ghost use Rattle.miniserde_read.specs.Rest.{GivesAt, GivesNoneAt};
 ghost use Rattle.miniserde_read.specs.Events.{EventInRange};
 ghost use Rattle.miniserde_value.specs.Builders.{hole_in};
 ghost use Rattle.miniserde_value.specs.Hole.{has_member};
-ghost use Rattle.miniserde_value.specs.Containers.{innermost, kind_around, pending, with_next_name};
+ghost use Rattle.miniserde_value.specs.Containers.{innermost_kind, kind_around, pending, with_next_name};
 ghost use Rattle.miniserde_value.specs.Retained.{retained_if};
 ghost use Rattle.miniserde_value.specs.Values.{content_of};
 ghost use Rattle.miniserde_value.specs.private.Builds.{Builds, NeverGives, closed_unless, state_before, state_due};
@@ -55,7 +55,7 @@ fn take_children<'a>(
     first: bool,
     once: bool,
 ) -> Result<bool>
-    requires inside { innermost (hole_in builder.old) ≡ Some kind }
+    requires inside { innermost_kind (hole_in builder.old) ≡ Some kind }
     requires unnamed { pending (hole_in builder.old) ≡ None }
     requires going { source.old.refused ≡ None }
     ensures going { IfOk result (λ _. source.new.refused ≡ None) }
@@ -87,7 +87,7 @@ fn take_leaves<'a>(
     first: bool,
     once: bool,
 ) -> Result<bool>
-    requires inside { innermost (hole_in builder.old) ≡ Some kind }
+    requires inside { innermost_kind (hole_in builder.old) ≡ Some kind }
     requires unnamed { pending (hole_in builder.old) ≡ None }
     requires going { source.old.refused ≡ None }
     ensures going { IfOk result (λ _. source.new.refused ≡ None) }
@@ -124,11 +124,11 @@ fn take_name<'a>(
     ensures going { IfOk result (λ _. source.new.refused ≡ None) }
     ensures shorter { IfOk result (λ _. length source.new.rest ≤ length source.old.rest) }
     ensures kind { IfOk result (λ name. kind_around (option_map string_bytes name) ≡ kind) }
-    ensures builds { (first : Bool) (s : List ℕ) → innermost (hole_in builder.now) ≡ Some kind
+    ensures builds { (first : Bool) (s : List ℕ) → innermost_kind (hole_in builder.now) ≡ Some kind
         → Follows kind first false s source.old.rest
         → IfOk result (λ name. Builds once (state_before first (hole_in builder.now) s)
         (state_due (with_next_name (option_map string_bytes name) (hole_in builder.now)) source.new.rest)) }
-    ensures invalid { (first : Bool) (s : List ℕ) → innermost (hole_in builder.now) ≡ Some kind
+    ensures invalid { (first : Bool) (s : List ℕ) → innermost_kind (hole_in builder.now) ≡ Some kind
         → Follows kind first false s source.old.rest
         → result ≡ Err Error.Invalid → NeverGives once (state_before first (hole_in builder.now) s) }
 {

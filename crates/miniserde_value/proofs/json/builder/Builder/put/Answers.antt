@@ -3,7 +3,7 @@
 use Rattle.std.proofs.Common.{refl, arith}
 use Rattle.std.proofs.lemmas.Result.{on_ok_weaker}
 use Rattle.miniserde_value.specs.declared.json.builder.OpenContainer.TheVariants as container
-use Rattle.miniserde_value.specs.Hole.{put}
+use Rattle.miniserde_value.specs.Hole.{with_tree}
 use Rattle.miniserde_value.specs.Values.{content_of}
 use Rattle.miniserde_value.proofs.Lasts.{last_got}
 use Rattle.miniserde_value.proofs.Containers.{fits_changed, object_changed}
@@ -20,6 +20,6 @@ returns-in-Some-Object c =
     let top = last_got c.args.self.now.containers.items c.deref.result.now _ container.Object c.deref.ensures.value
     c.in-Some-Object.ensures.value c.in-Some-Object.field-0-is in
     on_ok_weaker c.put.result
-    (object_changed (put (content_of c.args.value)) _ c.args.self.now.objects.items _
+    (object_changed (with_tree (content_of c.args.value)) _ c.args.self.now.objects.items _
     c.args.self.now.containers.items
     (record { below = _; there = c.in-Some.ensures.value; is_last = omega arith; on_top = top })) c.put.ensures

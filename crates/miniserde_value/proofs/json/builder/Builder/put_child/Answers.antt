@@ -5,7 +5,7 @@ use Rattle.std.proofs.lemmas.Result.{on_ok_weaker}
 use Rattle.miniserde_model.specs.Tree.{Members}
 use Rattle.miniserde_value.specs.Builders.{hole_in}
 use Rattle.miniserde_value.specs.Containers.{kind_around, with_next_name}
-use Rattle.miniserde_value.specs.Hole.{in_members, put, with_name}
+use Rattle.miniserde_value.specs.Hole.{in_members, with_tree, with_name}
 use Rattle.miniserde_value.specs.Values.{content_of}
 use Rattle.miniserde_value.proofs.Containers.{fits_changed, fits_longer, object_changed, object_on_top, object_is_open}
 use Rattle.miniserde_value.proofs.Containers.{pending_last, item_put}
@@ -40,11 +40,11 @@ returns-in-Some-last_mut c =
     let unnamed = sym (pending_last _ c.args.self.now.objects.items c.args.self.now.containers.items
     (record { below = _; there = last; is_last = omega arith; on_top = top.1 })) ∙ c.requires.unnamed in
     on_ok_weaker c.insert.result
-    (λ e. object_changed (λ h. put (content_of c.args.value) (with_name (string_bytes c.in-Some.name) h)) _
+    (λ e. object_changed (λ h. with_tree (content_of c.args.value) (with_name (string_bytes c.in-Some.name) h)) _
     c.args.self.now.objects.items _ c.args.self.now.containers.items
     (record { below = _; there = last; is_last = omega arith; on_top = top.1 })
     (λ h. ap₂ (λ (ms : Members) (k : Option (List ℕ)). in_members ms k h) e unnamed)
-    ∙ ap (λ z. put (content_of c.args.value) (with_next_name (option_map string_bytes z) (hole_in c.args.self.now)))
+    ∙ ap (λ z. with_tree (content_of c.args.value) (with_next_name (option_map string_bytes z) (hole_in c.args.self.now)))
     (sym c.in-Some.is)) c.insert.ensures.ok
 
 pub returns-in_ok-push-in-None : goal.returns-in_ok-push-in-None
@@ -52,5 +52,5 @@ returns-in_ok-push-in-None c =
     let inside = c.requires.inside ∙ ap (λ z. Some (kind_around (option_map string_bytes z))) c.in-None.is in
     item_put c.args.self.now.values.items c.args.value (reverse c.args.self.now.objects.items)
     (reverse c.args.self.now.containers.items) c.in_ok-push-in-None.ensures.items c.args.self.now.fits inside
-    ∙ ap (λ z. put (content_of c.args.value) (with_next_name (option_map string_bytes z) (hole_in c.args.self.now)))
+    ∙ ap (λ z. with_tree (content_of c.args.value) (with_next_name (option_map string_bytes z) (hole_in c.args.self.now)))
     (sym c.in-None.is)
