@@ -85,16 +85,16 @@ chain_lengths [] (e ∷ es) groups text last h = absurd h
 chain_lengths (n ∷ ns) [] groups text last h = absurd h
 
 -- more text behind the last member
-pub chain_add : (ns : List Member) (es : List MemberEntry) (groups : SplicedText) (text : TextFrom) (last cs : List ℕ)
-    (ks : List Splice) (y : List ℕ) → Chain ns es groups text last → FilledPart groups (text_from (part_end text) cs ks) y
+pub chain_add : (ns : List Member) (es : List MemberEntry) (groups : SplicedText) (text : TextFrom) (last : List ℕ)
+    {cs : List ℕ} {ks : List Splice} {y : List ℕ} → Chain ns es groups text last → FilledPart groups (text_from (part_end text) cs ks) y
     → Chain ns es groups (longer text cs ks) (last ++ y)
-chain_add [] [] groups text last cs ks y h u = holds_append (text.from.bytes + length text.bytes) cs ks y h refl u
-chain_add (n ∷ ns) (e ∷ es) groups text last cs ks y h u =
+chain_add [] [] groups text last {cs = cs} {ks = ks} {y = y} h u = holds_append (text.from.bytes + length text.bytes) cs ks y h refl u
+chain_add (n ∷ ns) (e ∷ es) groups text last {cs = cs} {ks = ks} {y = y} h u =
     seam_more n e text cs ks h
-    (chain_add ns es groups (text_from n.point h.behind h.splices_behind) last cs ks y h.is_behind
+    (chain_add ns es groups (text_from n.point h.behind h.splices_behind) last h.is_behind
     (subst (λ z. Holds groups.bytes.items groups.splices.items z cs ks y) (seam_end n e text h).0 u))
-chain_add [] (e ∷ es) groups text last cs ks y h u = absurd h
-chain_add (n ∷ ns) [] groups text last cs ks y h u = absurd h
+chain_add [] (e ∷ es) groups text last h u = absurd h
+chain_add (n ∷ ns) [] groups text last h u = absurd h
 
 -- groups' are the groups, with more of them or not
 pub record GroupsStay (groups groups' : SplicedText) : Type 0 where
@@ -138,10 +138,10 @@ pub record BeginsBehind (n : Member) (e : MemberEntry) (text : TextFrom) : Type 
   pub splices : n.point.splices ≡ text.from.splices + length text.splices
 
 -- one more member
-pub chain_begin : (ns : List Member) (es : List MemberEntry) (groups : SplicedText) (text : TextFrom) (last : List ℕ) (n : Member)
-    (e : MemberEntry) → Chain ns es groups text last → e.earlier_text ≡ last → BeginsBehind n e text
+pub chain_begin : (ns : List Member) (es : List MemberEntry) (groups : SplicedText) (text : TextFrom) (last : List ℕ) {n : Member}
+    {e : MemberEntry} → Chain ns es groups text last → e.earlier_text ≡ last → BeginsBehind n e text
     → Chain (ns ++ n ∷ []) (es ++ e ∷ []) groups (text_from text.from (text.bytes ++ comma_before e.first) text.splices) []
-chain_begin [] [] groups text last n e h t b = record {
+chain_begin [] [] groups text last {e = e} h t b = record {
   before = text.bytes;
   behind = [];
   splices_before = text.splices;
@@ -155,20 +155,20 @@ chain_begin [] [] groups text last n e h t b = record {
   is_before = subst (FilledPart groups text) (sym t) h;
   is_behind = none;
 }
-chain_begin (m ∷ ns) (f ∷ es) groups text last n e h t b =
+chain_begin (m ∷ ns) (f ∷ es) groups text last {n = n} {e = e} h t b =
     let x = comma_before e.first in
     let far = seam_end m f text h in
     let here : n.point.bytes ≡ m.point.bytes + length (h.behind ++ x) =
     omega (arith, b.bytes, far.0, length-append text.bytes x, length-append h.behind x) in
-    let rest = chain_begin ns es groups (text_from m.point h.behind h.splices_behind) last n e h.is_behind t
+    let rest = chain_begin ns es groups (text_from m.point h.behind h.splices_behind) last {n = n} {e = e} h.is_behind t
     (record { name = b.name; first = b.first; bytes = here; splices = omega (arith, b.splices, far.1) }) in
     subst (λ z. Chain (m ∷ (ns ++ n ∷ [])) (f ∷ (es ++ e ∷ [])) groups (text_from text.from (text.bytes ++ x) z) [])
     (append-nil text.splices)
     (seam_more m f text x [] h
     (subst (λ z. Chain (ns ++ n ∷ []) (es ++ e ∷ []) groups (text_from m.point (h.behind ++ x) z) [])
     (sym (append-nil h.splices_behind)) rest))
-chain_begin [] (f ∷ es) groups text last n e h t b = absurd h
-chain_begin (m ∷ ns) [] groups text last n e h t b = absurd h
+chain_begin [] (f ∷ es) groups text last h t b = absurd h
+chain_begin (m ∷ ns) [] groups text last h t b = absurd h
 
 -- the text of all
 pub chain_whole : (ns : List Member) (es : List MemberEntry) (groups : SplicedText) (text : TextFrom) (last : List ℕ)
@@ -183,7 +183,7 @@ chain_whole (n ∷ ns) (e ∷ es) groups text last h =
     let to = at + length h.before in
     let far : n.point.bytes ≡ to + length x = omega (arith, h.begins, length-append h.before x) in
     let behind : Holds ms gs to (x ++ h.behind) h.splices_behind (x ++ entries_text es last) =
-    holds_behind ms gs to n.point.bytes x h.behind h.splices_behind (entries_text es last) far rest in
+    holds_behind to n.point.bytes x far rest in
     let all : Holds ms gs at (h.before ++ (x ++ h.behind)) (h.splices_before ++ h.splices_behind)
     (e.earlier_text ++ (x ++ entries_text es last)) =
     holds_append to (x ++ h.behind) h.splices_behind (x ++ entries_text es last) h.is_before refl behind in

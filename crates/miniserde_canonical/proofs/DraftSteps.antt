@@ -70,7 +70,7 @@ chain_plain : (ns : List Member) (es : List MemberEntry) (groups : SplicedText) 
     → Chain ns es groups (text_from text_begin (bs ++ x) hs) (last ++ x)
 chain_plain ns es groups bs hs last x c =
     subst (λ z. Chain ns es groups (text_from text_begin (bs ++ x) z) (last ++ x)) (append-nil hs)
-    (chain_add ns es groups (text_from text_begin bs hs) last x [] x c
+    (chain_add ns es groups (text_from text_begin bs hs) last c
     (holds_plain groups.bytes.items groups.splices.items (0 + length bs) x))
 
 -- if a draft holds s, and s' is s with the bytes x appended, it holds s' with x after its bytes
@@ -124,7 +124,7 @@ holding_begun {d = d} {d' = d'} {bs = bs} {s = s} {s' = s'} n name_text k m o be
     let x = string_text name_text ++ 58 ∷ [] in
     let cs = bs ++ comma_before s.first in
     let begun : Chain ns (s.entries ++ y ∷ []) d.groups (text_from text_begin cs d.out.splices.items) [] =
-    chain_begin d.members.items s.entries d.groups (text_from text_begin bs d.out.splices.items) s.last n y r.chain refl begins in
+    chain_begin d.members.items s.entries d.groups (text_from text_begin bs d.out.splices.items) s.last r.chain refl begins in
     record {
       chain = rw (m, k.splices, a.0, a.1) (chain_stays _ _ _ _ (groups_same k.groups k.inner)
           (chain_plain ns (s.entries ++ y ∷ []) d.groups cs d.out.splices.items [] x begun));
@@ -256,10 +256,9 @@ ordered_at {d = d} {d' = d'} {s = s} {f = f} {n = n} {ns = ns} e es l o h is =
       splices = p.groups_splices;
     } in
     let kept = text_from text_begin c.before c.splices_before in
-    let new = chain_add ms before d'.groups kept e.earlier_text (comma_before e.first ++ p.bytes) p.splices
-    (comma_before e.first ++ x) (chain_stays ms before kept e.earlier_text stay c.is_before)
-    (holds_behind d'.groups.bytes.items d'.groups.splices.items (0 + length c.before) n.point.bytes
-    (comma_before e.first) p.bytes p.splices x far p.text) in
+    let new = chain_add ms before d'.groups kept e.earlier_text
+    (chain_stays ms before kept e.earlier_text stay c.is_before)
+    (holds_behind (0 + length c.before) n.point.bytes (comma_before e.first) far p.text) in
     let out_bytes : d'.out.bytes.items ≡ c.before ++ (comma_before e.first ++ p.bytes) =
     p.is_bytes ∙ ap (λ z. z ++ p.bytes) front ∙ append_assoc c.before (comma_before e.first) p.bytes in
     let out_splices : d'.out.splices.items ≡ c.splices_before ++ p.splices = p.is_splices ∙ ap (λ z. z ++ p.splices) splices_front in

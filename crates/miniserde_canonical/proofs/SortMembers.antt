@@ -13,11 +13,10 @@ use Rattle.miniserde_canonical.specs.declared.spread.Splice.{Splice}
 use Rattle.miniserde_canonical.specs.declared.spread.SplicedText.{SplicedText}
 use Rattle.miniserde_canonical.specs.declared.member.Member.{Member}
 use Rattle.miniserde_canonical.specs.private.SplicedTexts.{Within, bytes_in, splices_in, shifted_splice, Holds, none, text_begin, Ordered, AllBefore}
-use Rattle.miniserde_canonical.specs.private.WaitingSpans.{SpanHolds}
 use Rattle.miniserde_canonical.specs.private.Members.{name_in, begin_of, end_of, members_at, begins_with_name, without_repeats}
 use Rattle.miniserde_canonical.specs.private.States.{comma_before, MemberEntry, entry_members, joined_texts, count}
 use Rattle.miniserde_canonical.specs.private.SortMembers.{EndsWithMembers, text_at, own_text_tree, IsEnd, Gains, PutsMember}
-use Rattle.miniserde_canonical.specs.private.SortMembers.{PutsMembers, texts, PutAt, PutsBack, SortsMembers}
+use Rattle.miniserde_canonical.specs.private.SortMembers.{PutsMembers, Texts, texts, PutAt, PutsBack, SortsMembers}
 use Rattle.miniserde_canonical.proofs.SplicedTexts.{between_end, between_none, holds_plain, plain_text, holds_append}
 use Rattle.miniserde_canonical.proofs.SplicedTexts.{holds_behind, holds_moved, group_holds, splice_holds, all_more}
 use Rattle.miniserde_canonical.proofs.SplicedTexts.{all_append, all_take, all_between, all_moved, ordered_gains}
@@ -63,8 +62,8 @@ gains_member {groups = groups} {mid = mid} {out = out} {ns = ns} {i = i} {p = p}
         bytes_gained = a.bytes s.0 ∙ ap (λ z. z ++ bytes_in p out.bytes.items) e ∙ append_assoc groups.bytes.items
             (comma_before f) (bytes_in p out.bytes.items);
         splices_gained = a.splices s.0 ∙ ap (λ z. z ++ inner) g;
-        text = holds_behind ms gs (length groups.bytes.items) to (comma_before f) (bytes_in p out.bytes.items) inner x
-            far (holds_moved p.from.bytes to to (omega arith) (omega arith) s.1);
+        text = holds_behind (length groups.bytes.items) to (comma_before f) far
+            (holds_moved p.from.bytes to to (omega arith) (omega arith) s.1);
       };
       all_before = λ n h. all_moved n p.from.bytes to (splices_in p hs) (all_between n p.from.splices p.to.splices hs h);
     }
@@ -251,11 +250,6 @@ back_splice {point = point} {to = to} {out = out} {mid = mid} {groups = groups} 
     let h = held.splices in
     let bytes = held.bytes_gained in
     let splices = held.splices_gained in
-    let put : SpanHolds (ms ++ b) (gs ++ h) p x =
-    group_holds ms b gs h x p start.bytes start.splices (end.bytes ∙ ap length bytes) (end.splices ∙ ap length splices) held.text in
-    let stands : SpanHolds groups.bytes.items groups.splices.items p x =
-    subst (λ z. SpanHolds z groups.splices.items p x) (sym bytes)
-    (subst (λ z. SpanHolds (ms ++ b) z p x) (sym splices) put) in
     let out_splices : out'.splices.items ≡ take point.splices out.splices.items ++ splice ∷ [] =
     oh ∙ ap (λ (y : List Splice). y ++ splice ∷ []) cut.splices in
     let many = ap length splices ∙ length-append gs h in
@@ -268,7 +262,7 @@ back_splice {point = point} {to = to} {out = out} {mid = mid} {groups = groups} 
       is_splices = out_splices;
       groups_bytes = bytes;
       groups_splices = splices;
-      text = splice_holds groups.bytes.items groups.splices.items point.bytes splice x refl stands;
+      text = splice_holds groups point.bytes splice x refl (group_holds p start end held);
       stay_in_order = λ g. (
         subst (λ z. Ordered 0 z) (sym splices) (ordered_gains gs h g.0 (a g.1)),
         subst (λ z. AllBefore (length groups.splices.items) z) (sym out_splices)
@@ -293,26 +287,23 @@ own_within [] (e ∷ es) groups out last o = absurd o
 own_within (n ∷ ns) [] groups out last o = absurd o
 
 -- members put in sorted order into the groups, and then put back, are the members in normal form
-pub settled : {ns : List Member} {from : Point} {order : List ℕ} {groups : SplicedText} (d : Member)
-    (out mid out' groups' : SplicedText) (n : ℕ) → 0 < length ns → InNameOrder ns order → IsEnd from groups
-    → PutsMembers ns order (texts out groups) mid n → PutsBack (get_or ns 0 d).point from (texts out mid) (texts out' groups')
-    → SortsMembers ns (texts out groups) (texts out' groups') (nat_eq n (length ns))
-settled {ns = ns} {order = order} {groups = groups} d out mid out' groups' n some o end g p = λ es last own.
-    let agree = own_agrees ns es groups out last own in
-    let t = g es last groups own in
+pub settled : {ns : List Member} {from : Point} {order : List ℕ} (d : Member) (old : Texts) (mid : SplicedText)
+    (new : Texts) (n : ℕ) → 0 < length ns → InNameOrder ns order → IsEnd from old.groups → PutsMembers ns order old mid n
+    → PutsBack (get_or ns 0 d).point from (texts old.out mid) new → SortsMembers ns old new (nat_eq n (length ns))
+settled {ns = ns} {order = order} d old mid new n some o end g p = λ es last own.
+    let agree = own_agrees ns es old.groups old.out last own in
+    let t = g es last old.groups own in
     let r = own_text_tree es last in
     let sorted : without_repeats (members_at ns r order) ≡ norm_members (entry_members es last) =
     kept_normal ns es last order agree o in
     let gains = t.0 in
     let point = (get_or ns 0 d).point in
     let here : point ≡ begin_of ns text_begin = first_point ns d some in
-    let within : point.bytes ≤ length out.bytes.items =
-    subst (λ z. z.bytes ≤ length out.bytes.items) (sym here) (own_within ns es groups out last own) in
-    let back = p groups (joined_texts true (without_repeats (members_at ns r order))) gains.appends end within
-    (gains.all_before (length groups.splices.items)) in (
-      subst (λ z. PutAt (begin_of ns text_begin) (texts out groups) (texts out' groups')
-          (joined_texts true z)) sorted
-          (subst (λ z. PutAt z (texts out groups) (texts out' groups')
-          (joined_texts true (without_repeats (members_at ns r order)))) here back),
+    let within : point.bytes ≤ length old.out.bytes.items =
+    subst (λ z. z.bytes ≤ length old.out.bytes.items) (sym here) (own_within ns es old.groups old.out last own) in
+    let back = p old.groups (joined_texts true (without_repeats (members_at ns r order))) gains.appends end within
+    (gains.all_before (length old.groups.splices.items)) in (
+      subst (λ z. PutAt (begin_of ns text_begin) old new (joined_texts true z)) sorted
+          (subst (λ z. PutAt z old new (joined_texts true (without_repeats (members_at ns r order)))) here back),
       ap₂ nat_eq (t.1 ∙ ap count sorted) (sym (ended_count ns es last agree)),
     )

@@ -94,9 +94,9 @@ lines_none s s' e = subst (λ z. Lines s z no_members) e
       lays = refl;
     })
 
-lines_cons : (n : List ℕ) (t : Tree) (ms : Members) (s m u s' : State) → TokenStep (name n) s m
+lines_cons : (n : List ℕ) (t : Tree) (ms : Members) (s : State) {m u s' : State} → TokenStep (name n) s m
     → Grows m u (compact (norm t)) (names_distinct t) → u.first ≡ false → Lines u s' ms → Lines s s' (member n t ms)
-lines_cons n t ms s m u s' a g f l =
+lines_cons n t ms s {m = m} {u = u} {s' = s'} a g f l =
     let e : MemberEntry = record { earlier_text = s.last; first = s.first; name = n } in
     let text : u.last ≡ row n (norm t) = g.last ∙ ap (λ z. z ++ compact (norm t)) a.1 ∙ append_assoc (string_text n)
     (58 ∷ []) (compact (norm t)) in
@@ -350,7 +350,7 @@ mutual
       let m = r.0 in
       let u = run_split (tokens t) (member_tokens ms) m s' r.2 in
       let a = tree_grows t m u.0 u.1 in
-      lines_cons n t ms s m u.0 s' r.1 a.0 a.1 (members_grow ms u.0 s' u.2)
+      lines_cons n t ms s r.1 a.0 a.1 (members_grow ms u.0 s' u.2)
 
 -- a run over a tree's tokens makes the canonical text and no entries, and `distinct` is `names_distinct`
 pub steps_make : (t : Tree) (s : State) → TokenSteps (tokens t) initial_state s → (s.last ≡ compact (norm t)) × (s.entries ≡ [])
