@@ -20,7 +20,7 @@ use Rattle.miniserde_canonical.specs.private.States.{Arranged, Closes, TokenStep
 use Rattle.miniserde_canonical.specs.private.SortMembers.{Chain, EndsWithMembers, texts, SortsMembers}
 use Rattle.miniserde_canonical.specs.private.Drafts.{Wrote, Holding, Represents, ChangesOnlyText}
 use Rattle.miniserde_canonical.proofs.SplicedTexts.{holds_plain, holds_behind}
-use Rattle.miniserde_canonical.proofs.Chains.{BeginsBehind, part_end, chain_lengths, chain_add, GroupsStay, groups_same}
+use Rattle.miniserde_canonical.proofs.Chains.{BeginsBehind, chain_lengths, chain_add, GroupsStay, groups_same}
 use Rattle.miniserde_canonical.proofs.Chains.{chain_stays, chain_begin, chain_merge, chain_cut}
 use Rattle.miniserde_canonical.proofs.MemberSpans.{chain_agrees, cut_own}
 use Rattle.miniserde_canonical.proofs.InputRuns.{RunBegins, wrote_on, rewound}

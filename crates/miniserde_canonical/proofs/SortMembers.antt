@@ -12,7 +12,8 @@ use Rattle.miniserde_canonical.specs.declared.spread.Span.{Span}
 use Rattle.miniserde_canonical.specs.declared.spread.Splice.{Splice}
 use Rattle.miniserde_canonical.specs.declared.spread.SplicedText.{SplicedText}
 use Rattle.miniserde_canonical.specs.declared.member.Member.{Member}
-use Rattle.miniserde_canonical.specs.private.SplicedTexts.{Within, bytes_in, splices_in, shifted_splice, Holds, none, text_begin, Ordered, AllBefore}
+use Rattle.miniserde_canonical.specs.private.SplicedTexts.{Within, bytes_in, splices_in, shifted_splice, Holds, none, text_begin}
+use Rattle.miniserde_canonical.specs.private.SplicedTexts.{Ordered, AllBefore}
 use Rattle.miniserde_canonical.specs.private.Members.{name_in, begin_of, end_of, members_at, begins_with_name, without_repeats}
 use Rattle.miniserde_canonical.specs.private.States.{comma_before, MemberEntry, entry_members, joined_texts, count}
 use Rattle.miniserde_canonical.specs.private.SortMembers.{EndsWithMembers, text_at, own_text_tree, IsEnd, Gains, PutsMember}

@@ -118,7 +118,8 @@ group_holds {base = base} {groups = groups} {x = x} p from to a =
 -- no bytes and one splice at their index hold the text of the splice's group
 pub splice_holds : (groups : SplicedText) (at : ℕ) (h : Splice) (x : List ℕ) → h.at ≡ at → SpanHolds groups h.group x
     → Holds groups.bytes.items groups.splices.items at [] (h ∷ []) x
-splice_holds groups at h x e s = subst (λ z. Holds groups.bytes.items groups.splices.items at [] (h ∷ []) z) (append-nil x) (splice h e s.0 s.1 none)
+splice_holds groups at h x e s =
+    subst (λ z. Holds groups.bytes.items groups.splices.items at [] (h ∷ []) z) (append-nil x) (splice h e s.0 s.1 none)
 
 -- the first splice of a text
 pub record AtHole (ms : List ℕ) (gs : List Splice) (at : ℕ) (bs : List ℕ) (h : Splice) (hs : List Splice) (x : List ℕ) : Type 0 where

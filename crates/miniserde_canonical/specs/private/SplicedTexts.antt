@@ -44,13 +44,13 @@ FilledText groups text x = Holds groups.bytes.items groups.splices.items 0 text.
 abbrev pub text_begin : Point
 text_begin = record { bytes = 0; splices = 0 }
 
--- a text with splices that is a part of another one, which has the point `from` at the part's beginning
+-- a part of a text with splices, which begins there at the point `from`
 pub record TextFrom : Type 0 where
   pub from : Point
   pub bytes : List ℕ
   pub splices : List Splice
 
--- the part with these bytes and splices, from the point on
+-- the part with these bytes and splices, from that point on
 abbrev pub text_from : Point → List ℕ → List Splice → TextFrom
 text_from from bytes splices = record { from = from; bytes = bytes; splices = splices }
 

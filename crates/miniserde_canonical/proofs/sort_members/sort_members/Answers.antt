@@ -16,6 +16,7 @@ returns c =
       lasts = λ r q. c.in_ok-sort.ensures.last r q ∙ ap (λ z. last_of q (members_at ns r z)) c.in_ok-fill.ensures;
     } in
     settled c.index-members-0.result (texts c.args.out.now c.args.groups.now) c.put_members.new.groups
-    (texts c.put_back.new.out c.put_back.new.groups) c.in_ok-number.number c.requires (subst (InNameOrder ns) (sym c.as_slice.ensures.value) sorted)
+    (texts c.put_back.new.out c.put_back.new.groups) c.in_ok-number.number c.requires
+    (subst (InNameOrder ns) (sym c.as_slice.ensures.value) sorted)
     (record { bytes = c.end-from.ensures.bytes; splices = c.end-from.ensures.splices }) c.in_ok-number.ensures
     c.in_ok-put_back.ensures
