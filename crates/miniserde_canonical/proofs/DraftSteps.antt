@@ -8,18 +8,20 @@ use Rattle.std.proofs.lemmas.List.{take-append-drop, length-take-le, length-drop
 use Rattle.miniserde_model.specs.Compact.{string_text}
 use Rattle.miniserde_model.specs.Normal.{norm_members, Rise}
 use Rattle.miniserde_canonical.specs.CanonicalToken.{name, object}
+use Rattle.miniserde_canonical.specs.declared.spread.Splice.{Splice}
+use Rattle.miniserde_canonical.specs.declared.spread.SplicedText.{SplicedText}
 use Rattle.miniserde_canonical.specs.declared.member.Member.{Member}
 use Rattle.miniserde_canonical.specs.declared.draft.Draft.{Draft}
-use Rattle.miniserde_canonical.specs.private.SplicedTexts.{Holds, none, SplicesInOrder}
+use Rattle.miniserde_canonical.specs.private.SplicedTexts.{none, SplicesInOrder, text_begin, text_from, FilledText, FilledPart}
 use Rattle.miniserde_canonical.specs.private.Members.{NamesRise}
-use Rattle.miniserde_canonical.specs.private.States.{comma_before, MemberEntry, State, start, entry_members}
-use Rattle.miniserde_canonical.specs.private.States.{members_text, entries_text, once_each, AddsBytes, Sorted}
+use Rattle.miniserde_canonical.specs.private.States.{comma_before, MemberEntry, State, initial_state, entry_members}
+use Rattle.miniserde_canonical.specs.private.States.{joined_texts, entries_text, once_each, AddsBytes, Sorted}
 use Rattle.miniserde_canonical.specs.private.States.{Arranged, Closes, TokenStep}
-use Rattle.miniserde_canonical.specs.private.SortMembers.{Chain, texts, SortsMembers}
+use Rattle.miniserde_canonical.specs.private.SortMembers.{Chain, EndsWithMembers, texts, SortsMembers}
 use Rattle.miniserde_canonical.specs.private.Drafts.{Wrote, Holding, Represents, ChangesOnlyText}
 use Rattle.miniserde_canonical.proofs.SplicedTexts.{holds_plain, holds_behind}
-use Rattle.miniserde_canonical.proofs.Chains.{BeginsBehind, chain_lengths, chain_add, chain_more, chain_begin}
-use Rattle.miniserde_canonical.proofs.Chains.{chain_merge, chain_cut}
+use Rattle.miniserde_canonical.proofs.Chains.{BeginsBehind, chain_lengths, chain_add, GroupsStay, groups_same}
+use Rattle.miniserde_canonical.proofs.Chains.{chain_stays, chain_begin, chain_merge, chain_cut}
 use Rattle.miniserde_canonical.proofs.MemberSpans.{chain_agrees, cut_own}
 use Rattle.miniserde_canonical.proofs.InputRuns.{RunBegins, wrote_on, rewound}
 use Rattle.miniserde_canonical.proofs.MemberLists.{Agree, rise_all}
@@ -34,15 +36,15 @@ pub record EmptyDraft (d : Draft) : Type 0 where
   pub opened : d.opened.items ≡ []
   pub distinct : d.is_distinct ≡ true
 
--- a draft without text, groups, members and open objects, with all input left, represents `start`
+-- a draft without text, groups, members and open objects, with all input left, represents `initial_state`
 pub draft_starts : {d : Draft} (input : List ℕ) → d.input.now ≡ input → d.left ≡ length input → EmptyDraft d
-    → Represents d input start
+    → Represents d input initial_state
 draft_starts {d = d} input i l e = record {
   bytes = [];
   wrote = record { front = []; run = []; input = i; left = l; text = append-nil d.out.bytes.items ∙ e.bytes };
   holding = record {
-    chain = subst (λ z. Chain z [] d.groups.bytes.items d.groups.splices.items 0 0 [] d.out.splices.items [])
-        (sym e.members) (subst (λ z. Holds d.groups.bytes.items d.groups.splices.items 0 [] z []) (sym e.splices) none);
+    chain = subst (λ z. Chain z [] d.groups (text_from text_begin [] d.out.splices.items) []) (sym e.members)
+        (subst (λ z. FilledPart d.groups (text_from text_begin [] z) []) (sym e.splices) none);
     good = subst (λ z. SplicesInOrder z d.out.splices.items) (sym e.inner)
         (subst (λ z. SplicesInOrder [] z) (sym e.splices) (tt, tt));
     opened = e.opened;
@@ -53,7 +55,7 @@ draft_starts {d = d} input i l e = record {
 -- if only the text and the run of a draft change, it holds the same state
 pub keep_holding : {d d' : Draft} {bs : List ℕ} {s : State} → ChangesOnlyText d d' → Holding d bs s → Holding d' bs s
 keep_holding {d = d} {d' = d'} k h = record {
-  chain = rw (k.members, k.groups, k.inner, k.splices) h.chain;
+  chain = rw (k.members, k.splices) (chain_stays _ _ _ _ (groups_same k.groups k.inner) h.chain);
   good = subst (λ z. SplicesInOrder z d'.out.splices.items) (sym k.inner)
       (subst (λ z. SplicesInOrder d.groups.splices.items z) (sym k.splices) h.good);
   opened = k.opened ∙ h.opened;
@@ -62,20 +64,19 @@ keep_holding {d = d} {d' = d'} k h = record {
 
 -- ---- text
 
-chain_bytes : (d : Draft) (bs : List ℕ) (s : State) (x : List ℕ) → Holding d bs s
-    → Chain d.members.items s.entries d.groups.bytes.items d.groups.splices.items 0 0 (bs ++ x) d.out.splices.items
-    (s.last ++ x)
-chain_bytes d bs s x r =
-    subst (λ z. Chain d.members.items s.entries d.groups.bytes.items d.groups.splices.items 0 0 (bs ++ x) z
-    (s.last ++ x)) (append-nil d.out.splices.items)
-    (chain_add d.members.items s.entries d.groups.bytes.items d.groups.splices.items 0 0 (0 + length bs) bs x
-    d.out.splices.items [] s.last x r.chain refl
-    (holds_plain d.groups.bytes.items d.groups.splices.items (0 + length bs) x))
+-- bytes behind the last member
+chain_plain : (ns : List Member) (es : List MemberEntry) (groups : SplicedText) (bs : List ℕ) (hs : List Splice)
+    (last x : List ℕ) → Chain ns es groups (text_from text_begin bs hs) last
+    → Chain ns es groups (text_from text_begin (bs ++ x) hs) (last ++ x)
+chain_plain ns es groups bs hs last x c =
+    subst (λ z. Chain ns es groups (text_from text_begin (bs ++ x) z) (last ++ x)) (append-nil hs)
+    (chain_add ns es groups (text_from text_begin bs hs) last c
+    (holds_plain groups.bytes.items groups.splices.items (0 + length bs) x))
 
 -- if a draft holds s, and s' is s with the bytes x appended, it holds s' with x after its bytes
 pub holding_added : {d : Draft} {bs : List ℕ} {s s' : State} (x : List ℕ) → AddsBytes x s s' → Holding d bs s → Holding d (bs ++ x) s'
 holding_added {d = d} {bs = bs} {s = s} x a r = record {
-  chain = rw (a.1, a.0) (chain_bytes d bs s x r);
+  chain = rw (a.1, a.0) (chain_plain d.members.items s.entries d.groups bs d.out.splices.items s.last x r.chain);
   good = r.good;
   opened = r.opened ∙ sym a.2;
   distinct = r.distinct ∙ sym a.3;
@@ -93,40 +94,40 @@ still_good : {d d' : Draft} → KeepsGroups d d' → SplicesInOrder d.groups.spl
 still_good {d = d} {d' = d'} k g = subst (λ z. SplicesInOrder z d'.out.splices.items) (sym k.inner)
     (subst (λ z. SplicesInOrder d.groups.splices.items z) (sym k.splices) g)
 
+-- a draft has as many members as its state has entries
+as_many_entries : {d : Draft} {bs : List ℕ} {s : State} → Holding d bs s → length d.members.items ≡ length s.entries
+as_many_entries {d = d} {bs = bs} {s = s} r =
+    chain_lengths d.members.items s.entries d.groups (text_from text_begin bs d.out.splices.items) s.last r.chain
+
 -- with `{` after its bytes and its number of members in `opened`, a draft holds the state with one more object
 pub holding_opened : {d d' : Draft} {bs : List ℕ} {s s' : State} → KeepsGroups d d' → d'.members.items ≡ d.members.items
     → d'.opened.items ≡ d.opened.items ++ length d.members.items ∷ [] → TokenStep object s s' → Holding d bs s
     → Holding d' (bs ++ 123 ∷ []) s'
 holding_opened {d = d} {d' = d'} {bs = bs} {s = s} {s' = s'} k m o a r = record {
-  chain = rw (m, k.groups, k.inner, k.splices, a.1, a.0) (chain_bytes d bs s (123 ∷ []) r);
+  chain = rw (m, k.splices, a.1, a.0) (chain_stays _ _ _ _ (groups_same k.groups k.inner)
+      (chain_plain d.members.items s.entries d.groups bs d.out.splices.items s.last (123 ∷ []) r.chain));
   good = still_good k r.good;
-  opened = o ∙ ap₂ (λ (x : List ℕ) (y : ℕ). x ++ y ∷ []) r.opened
-      (chain_lengths d.members.items s.entries d.groups.bytes.items d.groups.splices.items 0 0 bs
-      d.out.splices.items s.last r.chain) ∙ sym a.2;
+  opened = o ∙ ap₂ (λ (x : List ℕ) (y : ℕ). x ++ y ∷ []) r.opened (as_many_entries r) ∙ sym a.2;
   distinct = k.distinct ∙ r.distinct ∙ sym a.3;
 }
 
 -- a member begins, and its name and a colon are put behind its begin
 pub holding_begun : {d d' : Draft} {bs : List ℕ} {s s' : State} (n : Member) (x : List ℕ) → KeepsGroups d d'
     → d'.members.items ≡ d.members.items ++ n ∷ [] → d'.opened.items ≡ d.opened.items
-    → BeginsBehind n (record { earlier_text = s.last; first = s.first; name = x }) 0 0 bs d.out.splices.items
+    → BeginsBehind n (record { earlier_text = s.last; first = s.first; name = x })
+    (text_from text_begin bs d.out.splices.items)
     → TokenStep (name x) s s' → Holding d bs s
     → Holding d' ((bs ++ comma_before s.first) ++ (string_text x ++ 58 ∷ [])) s'
 holding_begun {d = d} {d' = d'} {bs = bs} {s = s} {s' = s'} n name_text k m o begins a r =
-    let ms = d.groups.bytes.items in
-    let gs = d.groups.splices.items in
+    let ns = d.members.items ++ n ∷ [] in
     let y : MemberEntry = record { earlier_text = s.last; first = s.first; name = name_text } in
     let x = string_text name_text ++ 58 ∷ [] in
     let cs = bs ++ comma_before s.first in
-    let begun : Chain (d.members.items ++ n ∷ []) (s.entries ++ y ∷ []) ms gs 0 0 cs d.out.splices.items [] =
-    chain_begin d.members.items s.entries ms gs 0 0 bs d.out.splices.items s.last n y r.chain refl begins in
-    let more : Chain (d.members.items ++ n ∷ []) (s.entries ++ y ∷ []) ms gs 0 0 (cs ++ x) d.out.splices.items x =
-    subst (λ z. Chain (d.members.items ++ n ∷ []) (s.entries ++ y ∷ []) ms gs 0 0 (cs ++ x) z x)
-    (append-nil d.out.splices.items)
-    (chain_add (d.members.items ++ n ∷ []) (s.entries ++ y ∷ []) ms gs 0 0 (0 + length cs) cs x
-    d.out.splices.items [] [] x begun refl (holds_plain ms gs (0 + length cs) x)) in
+    let begun : Chain ns (s.entries ++ y ∷ []) d.groups (text_from text_begin cs d.out.splices.items) [] =
+    chain_begin d.members.items s.entries d.groups (text_from text_begin bs d.out.splices.items) s.last r.chain refl begins in
     record {
-      chain = rw (m, k.groups, k.inner, k.splices, a.0, a.1) more;
+      chain = rw (m, k.splices, a.0, a.1) (chain_stays _ _ _ _ (groups_same k.groups k.inner)
+          (chain_plain ns (s.entries ++ y ∷ []) d.groups cs d.out.splices.items [] x begun));
       good = still_good k r.good;
       opened = o ∙ r.opened ∙ sym a.2;
       distinct = k.distinct ∙ r.distinct ∙ sym a.3;
@@ -153,20 +154,18 @@ closes s m os f e o n a = λ ps g h l.
 
 -- the chain of all, as members before and behind
 parted : (d : Draft) (bs : List ℕ) (s : State) (f : ℕ) → Holding d bs s
-    → Chain (take f d.members.items ++ drop f d.members.items) (take f s.entries ++ drop f s.entries)
-    d.groups.bytes.items d.groups.splices.items 0 0 bs d.out.splices.items s.last
-parted d bs s f r = subst
-    (λ z. Chain z (take f s.entries ++ drop f s.entries) d.groups.bytes.items d.groups.splices.items 0 0 bs
-    d.out.splices.items s.last) (sym (take-append-drop f d.members.items))
-    (subst (λ z. Chain d.members.items z d.groups.bytes.items d.groups.splices.items 0 0 bs d.out.splices.items
-    s.last) (sym (take-append-drop f s.entries)) r.chain)
+    → Chain (take f d.members.items ++ drop f d.members.items) (take f s.entries ++ drop f s.entries) d.groups
+    (text_from text_begin bs d.out.splices.items) s.last
+parted d bs s f r =
+    let text = text_from text_begin bs d.out.splices.items in
+    subst (λ z. Chain z (take f s.entries ++ drop f s.entries) d.groups text s.last)
+    (sym (take-append-drop f d.members.items))
+    (subst (λ z. Chain d.members.items z d.groups text s.last) (sym (take-append-drop f s.entries)) r.chain)
 
 as_many : (d : Draft) (bs : List ℕ) (s : State) (f : ℕ) → Holding d bs s → f ≤ length d.members.items
     → length (take f d.members.items) ≡ length (take f s.entries)
 as_many d bs s f r l =
-    let same = chain_lengths d.members.items s.entries d.groups.bytes.items d.groups.splices.items 0 0 bs
-    d.out.splices.items s.last r.chain in
-    length-take-le f d.members.items l ∙ sym (length-take-le f s.entries (omega (arith, l, same)))
+    length-take-le f d.members.items l ∙ sym (length-take-le f s.entries (omega (arith, l, as_many_entries r)))
 
 -- the members behind a point agree with their entries
 own_part : (f : ℕ) (ns : List Member) (es : List MemberEntry) → Agree ns es → Agree (drop f ns) (drop f es)
@@ -183,8 +182,8 @@ pub rises_behind : {d : Draft} {bs : List ℕ} {s : State} (f : ℕ) (ns : List 
 rises_behind {d = d} {bs = bs} {s = s} f ns e h r =
     rise_all (drop f d.members.items) (drop f s.entries) s.last
     (own_part f d.members.items s.entries
-    (chain_agrees d.members.items s.entries d.groups.bytes.items d.groups.splices.items 0 0 bs d.out.splices.items
-    s.last r.chain)) (subst NamesRise e h)
+    (chain_agrees d.members.items s.entries d.groups (text_from text_begin bs d.out.splices.items) s.last r.chain))
+    (subst NamesRise e h)
 
 -- the names rise
 pub holding_same : {d d' : Draft} {bs : List ℕ} {s : State} (f : ℕ) → f ≤ length d.members.items → KeepsGroups d d'
@@ -198,13 +197,12 @@ pub holding_same : {d d' : Draft} {bs : List ℕ} {s : State} (f : ℕ) → f �
       distinct = s.distinct;
     })
 holding_same {d = d} {d' = d'} {bs = bs} {s = s} f l k m r =
-    let c : Chain (take f d.members.items) (take f s.entries) d.groups.bytes.items d.groups.splices.items 0 0 bs
-    d.out.splices.items (entries_text (drop f s.entries) s.last) =
-    chain_merge (take f d.members.items) (take f s.entries) (drop f d.members.items) (drop f s.entries)
-    d.groups.bytes.items d.groups.splices.items 0 0 bs d.out.splices.items s.last (as_many d bs s f r l)
-    (parted d bs s f r) in
+    let text = text_from text_begin bs d.out.splices.items in
+    let c : Chain (take f d.members.items) (take f s.entries) d.groups text (entries_text (drop f s.entries) s.last) =
+    chain_merge (take f d.members.items) (take f s.entries) (drop f d.members.items) (drop f s.entries) d.groups text
+    s.last (as_many d bs s f r l) (parted d bs s f r) in
     record {
-      chain = rw (m, k.groups, k.inner, k.splices) c;
+      chain = rw (m, k.splices) (chain_stays _ _ _ _ (groups_same k.groups k.inner) c);
       good = still_good k r.good;
       opened = refl;
       distinct = k.distinct ∙ r.distinct;
@@ -230,22 +228,18 @@ ordered_at : {d d' : Draft} {s : State} {f : ℕ} {n : Member} {ns : List Member
     → f ≤ length d.members.items → SortedFrom d d' f (n ∷ ns) → Holding d d.out.bytes.items s
     → drop f s.entries ≡ e ∷ es → PutInOrder d d' s f
 ordered_at {d = d} {d' = d'} {s = s} {f = f} {n = n} {ns = ns} e es l o h is =
-    let same = as_many d d.out.bytes.items s f h l in
-    let chain : Chain (take f d.members.items ++ n ∷ ns) (take f s.entries ++ e ∷ es) d.groups.bytes.items
-    d.groups.splices.items 0 0 d.out.bytes.items d.out.splices.items s.last =
-    subst (λ z. Chain (take f d.members.items ++ z) (take f s.entries ++ e ∷ es) d.groups.bytes.items
-    d.groups.splices.items 0 0 d.out.bytes.items d.out.splices.items s.last) (sym o.all)
-    (subst (λ z. Chain (take f d.members.items ++ drop f d.members.items) (take f s.entries ++ z)
-    d.groups.bytes.items d.groups.splices.items 0 0 d.out.bytes.items d.out.splices.items s.last) is
+    let ms = take f d.members.items in
+    let before = take f s.entries in
+    let text = text_from text_begin d.out.bytes.items d.out.splices.items in
+    let chain : Chain (ms ++ n ∷ ns) (before ++ e ∷ es) d.groups text s.last =
+    subst (λ z. Chain (ms ++ z) (before ++ e ∷ es) d.groups text s.last) (sym o.all)
+    (subst (λ z. Chain (ms ++ drop f d.members.items) (before ++ z) d.groups text s.last) is
     (parted d d.out.bytes.items s f h)) in
-    let ms = d.groups.bytes.items in
-    let gs = d.groups.splices.items in
-    let c = chain_cut (take f d.members.items) (take f s.entries) n e ns es ms gs 0 0 d.out.bytes.items
-    d.out.splices.items s.last same chain in
-    let own = cut_own (take f d.members.items) (take f s.entries) n e ns es d.groups d.out s.last c in
+    let c = chain_cut ms before n e ns es d.groups text s.last (as_many d d.out.bytes.items s f h l) chain in
+    let own : EndsWithMembers (n ∷ ns) (e ∷ es) d.groups d.out s.last = cut_own n e d.out c in
     let r = o.sorts (e ∷ es) s.last own in
     let p = r.0 in
-    let x = members_text true (norm_members (entry_members (e ∷ es) s.last)) in
+    let x = joined_texts true (norm_members (entry_members (e ∷ es) s.last)) in
     let here : n.point.bytes ≡ length (c.before ++ comma_before e.first) = omega (arith, c.begins) in
     let front : take n.point.bytes d.out.bytes.items ≡ c.before ++ comma_before e.first =
     ap₂ take here (c.bytes ∙ sym (append_assoc c.before (comma_before e.first) c.behind)) ∙ take-append_seam
@@ -255,22 +249,16 @@ ordered_at {d = d} {d' = d'} {s = s} {f = f} {n = n} {ns = ns} e es l o h is =
     ap₂ take at c.splices ∙ take-append_seam c.splices_before c.splices_behind in
     let far : n.point.bytes ≡ (0 + length c.before) + length (comma_before e.first) =
     omega (arith, here, length-append c.before (comma_before e.first)) in
-    let old : Chain (take f d.members.items) (take f s.entries) d'.groups.bytes.items d'.groups.splices.items 0 0
-    c.before c.splices_before e.earlier_text =
-    subst (λ z. Chain (take f d.members.items) (take f s.entries) z d'.groups.splices.items 0 0 c.before
-    c.splices_before e.earlier_text) (sym p.groups_bytes)
-    (subst (λ z. Chain (take f d.members.items) (take f s.entries) (ms ++ p.bytes_gained) z 0 0 c.before
-    c.splices_before e.earlier_text) (sym p.groups_splices)
-    (chain_more (take f d.members.items) (take f s.entries) ms gs 0 0 c.before c.splices_before e.earlier_text
-    p.bytes_gained p.splices_gained c.is_before)) in
-    let new : Chain (take f d.members.items) (take f s.entries) d'.groups.bytes.items d'.groups.splices.items 0 0
-    (c.before ++ (comma_before e.first ++ p.bytes)) (c.splices_before ++ p.splices)
-    (e.earlier_text ++ (comma_before e.first ++ x)) =
-    chain_add (take f d.members.items) (take f s.entries) d'.groups.bytes.items d'.groups.splices.items 0 0
-    (0 + length c.before) c.before (comma_before e.first ++ p.bytes) c.splices_before p.splices e.earlier_text
-    (comma_before e.first ++ x) old refl
-    (holds_behind d'.groups.bytes.items d'.groups.splices.items (0 + length c.before) n.point.bytes
-    (comma_before e.first) p.bytes p.splices x far p.text) in
+    let stay : GroupsStay d.groups d'.groups = record {
+      more = p.bytes_gained;
+      inner = p.splices_gained;
+      bytes = p.groups_bytes;
+      splices = p.groups_splices;
+    } in
+    let kept = text_from text_begin c.before c.splices_before in
+    let new = chain_add ms before d'.groups kept e.earlier_text
+    (chain_stays ms before kept e.earlier_text stay c.is_before)
+    (holds_behind (0 + length c.before) n.point.bytes (comma_before e.first) far p.text) in
     let out_bytes : d'.out.bytes.items ≡ c.before ++ (comma_before e.first ++ p.bytes) =
     p.is_bytes ∙ ap (λ z. z ++ p.bytes) front ∙ append_assoc c.before (comma_before e.first) p.bytes in
     let out_splices : d'.out.splices.items ≡ c.splices_before ++ p.splices = p.is_splices ∙ ap (λ z. z ++ p.splices) splices_front in
@@ -303,9 +291,7 @@ holding_sorted {d = d} {d' = d'} {s = s} {f = f} {ns = ns} l some o r = go ns (d
         → PutInOrder d d' s f
     go [] es h some o = absurd (omega (arith, some))
     go (n ∷ ns) [] h some o =
-        let same = chain_lengths d.members.items s.entries d.groups.bytes.items d.groups.splices.items 0 0
-        d.out.bytes.items d.out.splices.items s.last r.chain in
-        absurd (omega (arith, ap length o.all, length-drop f d.members.items, ap length h, length-drop f s.entries, same))
+        absurd (omega (arith, ap length o.all, length-drop f d.members.items, ap length h, length-drop f s.entries, as_many_entries r))
     go (n ∷ ns) (x ∷ es) h some o = ordered_at x es l o r h
 
 -- ---- calls
@@ -319,9 +305,7 @@ pub too_few : {d : Draft} {bs : List ℕ} {s : State} (os : List ℕ) (before : 
     → d.opened.items ≡ os ++ before ∷ [] → length d.members.items < before → NoneToClose s
 too_few {d = d} {bs = bs} {s = s} os before r e l = λ ps f h i.
     let same = snoc_same os ps before f (sym e ∙ r.opened ∙ h) in
-    let many = chain_lengths d.members.items s.entries d.groups.bytes.items d.groups.splices.items 0 0 bs
-    d.out.splices.items s.last r.chain in
-    omega (arith, l, i, same.1, many)
+    omega (arith, l, i, same.1, as_many_entries r)
 
 -- if ys is xs, the elements of ys from the index f to the end are those of xs from f on
 pub behind : (xs ys : List Member) (f : ℕ) → ys ≡ xs → take (length ys - f) (drop f ys) ≡ drop f xs
@@ -351,13 +335,12 @@ stays part rest' a r e = record {
 -- ---- the end of a text
 
 -- if the state has no entries, the draft's bytes and splices hold the `last` of the state
-pub holds_whole : (d : Draft) (s : State) → Holding d d.out.bytes.items s → s.entries ≡ []
-    → Holds d.groups.bytes.items d.groups.splices.items 0 d.out.bytes.items d.out.splices.items s.last
+pub holds_whole : (d : Draft) (s : State) → Holding d d.out.bytes.items s → s.entries ≡ [] → FilledText d.groups d.out s.last
 holds_whole d s r e = go d.members.items s.entries e r.chain
   where
-    go : (ns : List Member) (es : List MemberEntry) → es ≡ [] → Chain ns es d.groups.bytes.items d.groups.splices.items 0
-        0 d.out.bytes.items d.out.splices.items s.last
-        → Holds d.groups.bytes.items d.groups.splices.items 0 d.out.bytes.items d.out.splices.items s.last
+    go : (ns : List Member) (es : List MemberEntry) → es ≡ []
+        → Chain ns es d.groups (text_from text_begin d.out.bytes.items d.out.splices.items) s.last
+        → FilledText d.groups d.out s.last
     go [] [] e c = c
     go (n ∷ ns) [] e c = absurd c
     go ns (x ∷ es) e c = absurd (omega (arith, ap length e))
@@ -366,6 +349,6 @@ holds_whole d s r e = go d.members.items s.entries e r.chain
 pub sorted_like : (es : List MemberEntry) (s t m : State) → t.last ≡ s.last → t.distinct ≡ s.distinct → Sorted es t m → Sorted es s m
 sorted_like [] s t m h k p = absurd p
 sorted_like (e ∷ es) s t m h k p = (
-  p.0 ∙ ap (λ z. e.earlier_text ++ (comma_before e.first ++ members_text true (norm_members (entry_members (e ∷ es) z)))) h,
+  p.0 ∙ ap (λ z. e.earlier_text ++ (comma_before e.first ++ joined_texts true (norm_members (entry_members (e ∷ es) z)))) h,
   p.1 ∙ ap₂ (λ (x : Bool) (y : List ℕ). x && once_each (entry_members (e ∷ es) y)) k h,
 )

@@ -17,17 +17,17 @@ use Rattle.miniserde_canonical.proofs.SplicedTexts.{between_mid, between_end, be
 
 -- ---- spans that wait
 
-pub waits_push : (ms : List ℕ) (gs : List Splice) (ps : List Span) (q : Span) (x y : List ℕ) → SpansHold ms gs ps x
-    → SpanHolds ms gs q y → SpansHold ms gs (ps ++ q ∷ []) (y ++ x)
-waits_push ms gs [] q x y w u = ([], y, refl, u, ap (λ z. y ++ z) w ∙ append-nil y)
-waits_push ms gs (p ∷ ps) q x y w u =
-    (y ++ w.0, w.1, waits_push ms gs ps q w.0 y w.2 u, w.3, ap (λ z. y ++ z) w.4 ∙ sym (append_assoc y w.0 w.1))
+pub waits_push : (groups : SplicedText) (ps : List Span) (q : Span) (x y : List ℕ) → SpansHold groups ps x
+    → SpanHolds groups q y → SpansHold groups (ps ++ q ∷ []) (y ++ x)
+waits_push groups [] q x y w u = ([], y, refl, u, ap (λ z. y ++ z) w ∙ append-nil y)
+waits_push groups (p ∷ ps) q x y w u =
+    (y ++ w.0, w.1, waits_push groups ps q w.0 y w.2 u, w.3, ap (λ z. y ++ z) w.4 ∙ sym (append_assoc y w.0 w.1))
 
-pub waits_pop : (ms : List ℕ) (gs : List Splice) (ps : List Span) (q : Span) (x : List ℕ)
-    → SpansHold ms gs (ps ++ q ∷ []) x → (y z : List ℕ) × SpanHolds ms gs q y × SpansHold ms gs ps z × (x ≡ y ++ z)
-waits_pop ms gs [] q x w = (w.1, [], w.3, refl, w.4 ∙ ap (λ z. z ++ w.1) w.2 ∙ sym (append-nil w.1))
-waits_pop ms gs (p ∷ ps) q x w =
-    let m = waits_pop ms gs ps q w.0 w.2 in
+pub waits_pop : (groups : SplicedText) (ps : List Span) (q : Span) (x : List ℕ)
+    → SpansHold groups (ps ++ q ∷ []) x → (y z : List ℕ) × SpanHolds groups q y × SpansHold groups ps z × (x ≡ y ++ z)
+waits_pop groups [] q x w = (w.1, [], w.3, refl, w.4 ∙ ap (λ z. z ++ w.1) w.2 ∙ sym (append-nil w.1))
+waits_pop groups (p ∷ ps) q x w =
+    let m = waits_pop groups ps q w.0 w.2 in
     (m.0, m.1 ++ w.1, m.2, (m.1, w.1, m.3, w.3, refl), w.4 ∙ ap (λ z. z ++ w.1) m.4 ∙ append_assoc m.0 m.1 w.1)
 
 -- ---- the bytes up to a splice and behind it
@@ -112,24 +112,27 @@ pub record Progress : Type 0 where
 
 -- From `old` to `new` the span p is written or waits: if p holds x, and the spans that waited hold y, then what is
 -- written, with what the waiting spans hold, is what was written, and x and y.
-abbrev pub WritesSpan : List ℕ → List Splice → Span → Progress → Progress → Type 0
-WritesSpan ms gs p old new = (x y : List ℕ) → SpanHolds ms gs p x → SpansHold ms gs old.later y
-    → (z : List ℕ) × SpansHold ms gs new.later z × (new.out ++ z ≡ old.out ++ (x ++ y))
+abbrev pub WritesSpan : SplicedText → Span → Progress → Progress → Type 0
+WritesSpan groups p old new = (x y : List ℕ) → SpanHolds groups p x → SpansHold groups old.later y
+    → (z : List ℕ) × SpansHold groups new.later z × (new.out ++ z ≡ old.out ++ (x ++ y))
 
 -- `start` was written before the group p, and what is written since, with what the waiting spans hold, is what p holds
-abbrev pub WritesGroup : List ℕ → List Splice → Span → List ℕ → Progress → Type 0
-WritesGroup ms gs p start new = (x : List ℕ) → SpanHolds ms gs p x
-    → (z : List ℕ) × SpansHold ms gs new.later z × (new.out ++ z ≡ start ++ x)
+abbrev pub WritesGroup : SplicedText → Span → List ℕ → Progress → Type 0
+WritesGroup groups p start new = (x : List ℕ) → SpanHolds groups p x
+    → (z : List ℕ) × SpansHold groups new.later z × (new.out ++ z ≡ start ++ x)
 
 -- ---- one span
 
 -- A call of `put_span` for a span p with a splice: `out'` is `out` with the bytes of p before the splice, and `later'`
 -- is `later` with two spans more, the rest of p and then the group of the splice.
-pub span_splice : {ms : List ℕ} {gs : List Splice} {p : Span} {splice : Splice} {out out' : List ℕ} (later : List Span)
-    {mid later' : List Span} → FirstSplice gs p splice → AppendsPart ms p.from.bytes splice.at out out'
+pub span_splice : (groups : SplicedText) {p : Span} {splice : Splice} {out out' : List ℕ} (later : List Span)
+    {mid later' : List Span} → FirstSplice groups.splices.items p splice
+    → AppendsPart groups.bytes.items p.from.bytes splice.at out out'
     → mid ≡ later ++ rest_after p splice ∷ [] → later' ≡ mid ++ splice.group ∷ []
-    → WritesSpan ms gs p (record { out = out; later = later }) (record { out = out'; later = later' })
-span_splice {ms = ms} {gs = gs} {p = p} {splice = splice} {out = out} later {mid = mid} {later' = later'} n f j k = λ x y s w.
+    → WritesSpan groups p (record { out = out; later = later }) (record { out = out'; later = later' })
+span_splice groups {p = p} {splice = splice} {out = out} later {mid = mid} {later' = later'} n f j k = λ x y s w.
+    let ms = groups.bytes.items in
+    let gs = groups.splices.items in
     let v = s.0 in
     let first : splices_in p gs ≡ splice ∷ part_between (p.from.splices + 1) p.to.splices gs =
     first_splice p.from.splices p.to.splices gs n.stands.otherwise n.inside n.stands.below
@@ -140,16 +143,16 @@ span_splice {ms = ms} {gs = gs} {p = p} {splice = splice} {out = out} later {mid
     let bytes : f.part ≡ a.before = f.is_part (omega (arith, a.point)) (omega (arith, behind.0, v.1))
     ∙ before_splice splice.at halves a.point in
     let r = rest_after p splice in
-    let rest : SpanHolds ms gs r a.rest = (
+    let rest : SpanHolds groups r a.rest = (
       (behind.0, v.1, omega (arith, n.inside), v.3),
       subst (λ z. Holds ms gs splice.at z (part_between (p.from.splices + 1) p.to.splices gs) a.rest)
           (sym behind.1) a.after,
     ) in
-    let one : SpansHold ms gs mid (a.rest ++ y) =
-    subst (λ z. SpansHold ms gs z (a.rest ++ y)) (sym j) (waits_push ms gs later r y a.rest w rest) in
-    let two : SpansHold ms gs later' (a.group ++ (a.rest ++ y)) =
-    subst (λ z. SpansHold ms gs z (a.group ++ (a.rest ++ y))) (sym k)
-    (waits_push ms gs mid splice.group (a.rest ++ y) a.group one (a.within, a.inside)) in (
+    let one : SpansHold groups mid (a.rest ++ y) =
+    subst (λ z. SpansHold groups z (a.rest ++ y)) (sym j) (waits_push groups later r y a.rest w rest) in
+    let two : SpansHold groups later' (a.group ++ (a.rest ++ y)) =
+    subst (λ z. SpansHold groups z (a.group ++ (a.rest ++ y))) (sym k)
+    (waits_push groups mid splice.group (a.rest ++ y) a.group one (a.within, a.inside)) in (
       a.group ++ (a.rest ++ y),
       two,
       ap (λ z. z ++ (a.group ++ (a.rest ++ y))) (f.appended ∙ ap (λ z. out ++ z) bytes)
@@ -160,11 +163,13 @@ span_splice {ms = ms} {gs = gs} {p = p} {splice = splice} {out = out} later {mid
     rejoin a b c d y = simp append_assoc refl
 
 -- if a span without splices is appended, the output and the waiting spans make the same text as before
-pub span_plain : {ms : List ℕ} {out out' : List ℕ} (gs : List Splice) (p : Span) (later : List Span)
-    → (p.from.splices < p.to.splices → p.from.splices < length gs → ⊥)
-    → AppendsPart ms p.from.bytes p.to.bytes out out'
-    → WritesSpan ms gs p (record { out = out; later = later }) (record { out = out'; later = later })
-span_plain {ms = ms} {out = out} gs p later n f = λ x y s w.
+pub span_plain : {out out' : List ℕ} (groups : SplicedText) (p : Span) (later : List Span)
+    → (p.from.splices < p.to.splices → p.from.splices < length groups.splices.items → ⊥)
+    → AppendsPart groups.bytes.items p.from.bytes p.to.bytes out out'
+    → WritesSpan groups p (record { out = out; later = later }) (record { out = out'; later = later })
+span_plain {out = out} groups p later n f = λ x y s w.
+    let ms = groups.bytes.items in
+    let gs = groups.splices.items in
     let v = s.0 in
     let empty : splices_in p gs ≡ [] = elim (cases_lt p.from.splices p.to.splices) [
       | inl l ↦ absurd (n l (omega (arith, l, v.3)))
@@ -217,19 +222,19 @@ less_splice {gs = gs} {p = p} {splice = splice} later {mid = mid} {later' = late
 -- ---- a group
 
 -- if the group is the only span that waits, the waiting spans hold its text
-pub group_begins : (ms : List ℕ) (gs : List Splice) (p : Span) (out : List ℕ) {later later' : List Span}
-    → later ≡ [] → later' ≡ later ++ p ∷ [] → WritesGroup ms gs p out (record { out = out; later = later' })
-group_begins ms gs p out {later' = later'} e f = λ x s.
+pub group_begins : (groups : SplicedText) (p : Span) (out : List ℕ) {later later' : List Span}
+    → later ≡ [] → later' ≡ later ++ p ∷ [] → WritesGroup groups p out (record { out = out; later = later' })
+group_begins groups p out {later' = later'} e f = λ x s.
     let is : later' ≡ p ∷ [] = f ∙ ap (λ z. z ++ p ∷ []) e in
-    (x, subst (λ z. SpansHold ms gs z x) (sym is) ([], x, refl, s, refl), refl)
+    (x, subst (λ z. SpansHold groups z x) (sym is) ([], x, refl, s, refl), refl)
 
 -- if `put_span` writes the last waiting span q, the output and the waiting spans make the same text as before
-pub group_goes : (ms : List ℕ) (gs : List Splice) (p q : Span) (start : List ℕ) (old popped new : Progress)
-    → old.later ≡ popped.later ++ q ∷ [] → old.out ≡ popped.out → WritesGroup ms gs p start old
-    → WritesSpan ms gs q popped new → WritesGroup ms gs p start new
-group_goes ms gs p q start old popped new e o f g = λ x s.
+pub group_goes : (groups : SplicedText) (p q : Span) (start : List ℕ) (old popped new : Progress)
+    → old.later ≡ popped.later ++ q ∷ [] → old.out ≡ popped.out → WritesGroup groups p start old
+    → WritesSpan groups q popped new → WritesGroup groups p start new
+group_goes groups p q start old popped new e o f g = λ x s.
     let t = f x s in
-    let u = waits_pop ms gs popped.later q t.0 (subst (λ z. SpansHold ms gs z t.0) e t.1) in
+    let u = waits_pop groups popped.later q t.0 (subst (λ z. SpansHold groups z t.0) e t.1) in
     let v = g u.0 u.1 u.2 u.3 in
     (v.0, v.1, v.2 ∙ ap (λ z. popped.out ++ z) (sym u.4) ∙ ap (λ z. z ++ t.0) (sym o) ∙ t.2)
 
@@ -259,7 +264,7 @@ fill_begins groups text e f = λ x u. (
 -- after the bytes up to a splice and its group are written, the text after the splice is left
 pub fill_goes : (groups text : SplicedText) {ks : List Splice} {at i : ℕ} {splice : Splice} {out mid : List ℕ}
     (out' : List ℕ) → SpliceAt ks i splice → AppendsPart text.bytes.items at splice.at out mid
-    → ((x : List ℕ) → SpanHolds groups.bytes.items groups.splices.items splice.group x → out' ≡ mid ++ x)
+    → ((x : List ℕ) → SpanHolds groups splice.group x → out' ≡ mid ++ x)
     → Left groups text at (drop i ks) out → Left groups text splice.at (drop (i + 1) ks) out'
 fill_goes groups text {ks = ks} {at = at} {i = i} {splice = splice} {out = out} out' n f p left = λ x u.
     let ms = groups.bytes.items in

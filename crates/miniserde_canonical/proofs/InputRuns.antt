@@ -17,7 +17,7 @@ use Rattle.miniserde_text.specs.declared.json.lex.Text.{Text}
 use Rattle.miniserde_text.specs.declared.json.lex.Text.TheVariants.{Input, Scratch}
 use Rattle.miniserde_canonical.specs.declared.draft.Draft.{Draft}
 use Rattle.miniserde_canonical.specs.private.EventTokens.{first_token}
-use Rattle.miniserde_canonical.specs.private.Plain.{TextSpelled, SpellsToken}
+use Rattle.miniserde_canonical.specs.private.Plain.{TextSpelled, PartIsToken}
 use Rattle.miniserde_canonical.specs.private.States.{State, TokenStep, AddsBytes}
 use Rattle.miniserde_canonical.specs.private.SplicedTexts.{part_between}
 use Rattle.miniserde_canonical.specs.private.Drafts.{Wrote}
@@ -90,7 +90,7 @@ as_negative (pos (suc k)) part p n = let low = (value_tree (neg (pos (suc k))) p
 as_negative (negsuc k) part p n = sym (neg_text part (negsuc k) p)
 
 -- the step of a token other than a string, a number with a minus or `{` appends the bytes of the token
-pub as_it_is : (e : Event) (scratch part : List ℕ) (s s' : State) → SpellsToken e scratch part
+pub as_it_is : (e : Event) (scratch part : List ℕ) (s s' : State) → PartIsToken e scratch part
     → ((z : ℤ) → e ≡ event.Negative z → ⊥) → ((t : Text) → e ≡ event.Str t → ⊥) → (e ≡ event.MapStart → ⊥)
     → TokenStep (first_token (event_of_token e scratch)) s s' → AddsBytes part s s'
 as_it_is event.Null scratch part s s' p n m o h = subst (λ z. AddsBytes z s s') (sym p.0) h.0

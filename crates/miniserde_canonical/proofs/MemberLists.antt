@@ -123,11 +123,12 @@ less a b s d = go (text_cmp a b) refl
     go Equal e = absurd (true≢false (sym ((bytes_eq-Decides a b).1 (exact_bytes a b e)) ∙ d))
     go Greater e = absurd (true≢false (sym (ap is_lt (nat_list_cmp_total.antisymm b a ∙ ap ordering_reverse e)) ∙ s))
 
--- no name is below the one before it
+-- the name of the first member is not below n, in byte order; without members there is nothing to say
 abbrev HeadsOrder : List ℕ → Members → Type 0
 HeadsOrder n no_members = Unit {0}
 HeadsOrder n (member m t ms) = is_lt (text_cmp m n) ≡ false
 
+-- the names of the members do not fall
 abbrev Orders : Members → Type 0
 Orders no_members = Unit {0}
 Orders (member n t ms) = HeadsOrder n ms × Orders ms

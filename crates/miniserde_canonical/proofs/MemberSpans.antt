@@ -7,12 +7,11 @@ use Rattle.miniserde_canonical.specs.declared.spread.Point.{Point}
 use Rattle.miniserde_canonical.specs.declared.spread.Splice.{Splice}
 use Rattle.miniserde_canonical.specs.declared.spread.SplicedText.{SplicedText}
 use Rattle.miniserde_canonical.specs.declared.member.Member.{Member}
-use Rattle.miniserde_canonical.specs.private.SplicedTexts.{part_between, Holds, none}
+use Rattle.miniserde_canonical.specs.private.SplicedTexts.{part_between, Holds, none, text_begin, TextFrom, text_from}
 use Rattle.miniserde_canonical.specs.private.Members.{begin_of, before_comma, end_of}
 use Rattle.miniserde_canonical.specs.private.States.{comma_before, MemberEntry, text_before}
-use Rattle.miniserde_canonical.specs.private.SortMembers.{Chain, EndsWithMembersFrom, EndsWithMembers, IsEnd, text_at}
+use Rattle.miniserde_canonical.specs.private.SortMembers.{Seam, Chain, EndsWithMembersFrom, EndsWithMembers, IsEnd, text_at}
 use Rattle.miniserde_canonical.proofs.SplicedTexts.{between_end, between_mid, between_none}
-use Rattle.miniserde_canonical.proofs.Chains.{Cut}
 use Rattle.miniserde_canonical.proofs.MemberLists.{Agree}
 
 -- over the groups, the text `out` holds x from a point to another
@@ -32,10 +31,10 @@ holds_between groups out a b {x = x} {y = y} w e f u = (
       (sym e) (subst (λ z. Holds groups.bytes.items groups.splices.items a.bytes y z x) (sym f) u),
 )
 
-own_first : {n : Member} (ns : List Member) {e : MemberEntry} (es : List MemberEntry) {groups out : SplicedText} {last : List ℕ}
-    (end : Point) → IsEnd end out → EndsWithMembersFrom n ns e es groups out last
+own_first : {n : Member} (ns : List Member) {e : MemberEntry} (es : List MemberEntry) (groups : SplicedText) {out : SplicedText}
+    (last : List ℕ) (end : Point) → IsEnd end out → EndsWithMembers (n ∷ ns) (e ∷ es) groups out last
     → HoldsBetween groups out n.point (before_comma ns end) (text_before es last)
-own_first {n = n} [] {e = e} [] {groups = groups} {out = out} end i o =
+own_first {n = n} [] {e = e} [] groups {out = out} last end i o =
     let bs = out.bytes.items in
     let hs = out.splices.items in
     let long = ap length o.bytes ∙ length-append o.front o.inside in
@@ -44,7 +43,7 @@ own_first {n = n} [] {e = e} [] {groups = groups} {out = out} end i o =
     (omega (arith, i.bytes, o.begins, long), omega (arith, i.bytes), omega (arith, i.splices, o.behind, many), omega (arith, i.splices))
     (between_end n.point.bytes end.bytes bs o.front o.inside o.bytes o.begins i.bytes)
     (between_end n.point.splices end.splices hs o.splices_front o.splices_inside o.splices o.behind i.splices) o.chain
-own_first {n = n} (m ∷ ns) {e = e} (f ∷ es) {groups = groups} {out = out} end i o =
+own_first {n = n} (m ∷ ns) {e = e} (f ∷ es) groups {out = out} last end i o =
     let bs = out.bytes.items in
     let hs = out.splices.items in
     let r = o.chain in
@@ -66,13 +65,13 @@ own_first {n = n} (m ∷ ns) {e = e} (f ∷ es) {groups = groups} {out = out} en
     (comma_before f.first ++ r.behind) text o.begins wide)
     (between_mid n.point.splices m.point.splices hs o.splices_front r.splices_before r.splices_behind splices o.behind
     r.begins_splices) r.is_before
-own_first [] (f ∷ es) end i o = absurd o.chain
-own_first (m ∷ ns) [] end i o = absurd o.chain
+own_first [] (f ∷ es) groups last end i o = absurd o.chain
+own_first (m ∷ ns) [] groups last end i o = absurd o.chain
 
-own_tail : {n : Member} (ns : List Member) {e : MemberEntry} (es : List MemberEntry) {groups out : SplicedText} {last : List ℕ}
-    → EndsWithMembersFrom n ns e es groups out last → EndsWithMembers ns es groups out last
-own_tail [] [] o = tt
-own_tail (m ∷ ns) (f ∷ es) o =
+own_tail : {n : Member} (ns : List Member) {e : MemberEntry} (es : List MemberEntry) (groups : SplicedText) {out : SplicedText}
+    (last : List ℕ) → EndsWithMembers (n ∷ ns) (e ∷ es) groups out last → EndsWithMembers ns es groups out last
+own_tail [] [] groups last o = tt
+own_tail (m ∷ ns) (f ∷ es) groups last o =
     let r = o.chain in
     let front = o.front ++ (r.before ++ comma_before f.first) in
     record {
@@ -90,8 +89,8 @@ own_tail (m ∷ ns) (f ∷ es) o =
   where
     rejoin : (a b x c : List ℕ) → a ++ (b ++ (x ++ c)) ≡ (a ++ (b ++ x)) ++ c
     rejoin a b x c = simp append_assoc refl
-own_tail [] (f ∷ es) o = absurd o.chain
-own_tail (m ∷ ns) [] o = absurd o.chain
+own_tail [] (f ∷ es) groups last o = absurd o.chain
+own_tail (m ∷ ns) [] groups last o = absurd o.chain
 
 own_none : (ns : List Member) (es : List MemberEntry) (groups : SplicedText) {out : SplicedText} (last : List ℕ) {end : Point}
     → IsEnd end out → ns ≡ [] → es ≡ [] → HoldsBetween groups out (begin_of ns end) (end_of ns end) (text_at es last)
@@ -110,39 +109,35 @@ pub own_span : (i : ℕ) (ns : List Member) (es : List MemberEntry) (groups : Sp
 own_span i [] [] groups last p o =
     own_none (drop i []) (drop i []) groups last p (drop_all {X = Member} i [] (omega arith))
     (drop_all {X = MemberEntry} i [] (omega arith))
-own_span zero (n ∷ ns) (e ∷ es) groups last {end = end} p o = own_first ns es end p o
-own_span (suc i) (n ∷ ns) (e ∷ es) groups last p o = own_span i ns es groups last p (own_tail ns es o)
+own_span zero (n ∷ ns) (e ∷ es) groups last {end = end} p o = own_first ns es groups last end p o
+own_span (suc i) (n ∷ ns) (e ∷ es) groups last p o = own_span i ns es groups last p (own_tail ns es groups last o)
 own_span i [] (e ∷ es) groups last p o = absurd o
 own_span i (n ∷ ns) [] groups last p o = absurd o
 
 -- ---- names
 
 -- the members of a chain agree with its entries
-pub chain_agrees : (ns : List Member) (es : List MemberEntry) (ms : List ℕ) (gs : List Splice) (at k : ℕ) (bs : List ℕ)
-    (hs : List Splice) (last : List ℕ) → Chain ns es ms gs at k bs hs last → Agree ns es
-chain_agrees [] [] ms gs at k bs hs last h = tt
-chain_agrees (n ∷ ns) (e ∷ es) ms gs at k bs hs last h =
-    (h.name, chain_agrees ns es ms gs n.point.bytes n.point.splices h.behind h.splices_behind last h.is_behind)
-chain_agrees [] (e ∷ es) ms gs at k bs hs last h = absurd h
-chain_agrees (n ∷ ns) [] ms gs at k bs hs last h = absurd h
+pub chain_agrees : (ns : List Member) (es : List MemberEntry) (groups : SplicedText) (text : TextFrom) (last : List ℕ)
+    → Chain ns es groups text last → Agree ns es
+chain_agrees [] [] groups text last h = tt
+chain_agrees (n ∷ ns) (e ∷ es) groups text last h =
+    (h.name, chain_agrees ns es groups (text_from n.point h.behind h.splices_behind) last h.is_behind)
+chain_agrees [] (e ∷ es) groups text last h = absurd h
+chain_agrees (n ∷ ns) [] groups text last h = absurd h
 
 -- the members with whose texts a text ends agree with their entries
 pub own_agrees : (ns : List Member) (es : List MemberEntry) (groups out : SplicedText) (last : List ℕ)
     → EndsWithMembers ns es groups out last → Agree ns es
 own_agrees [] [] groups out last o = tt
-own_agrees (n ∷ ns) (e ∷ es) groups out last o = (
-  o.name,
-  chain_agrees ns es groups.bytes.items groups.splices.items n.point.bytes n.point.splices o.inside o.splices_inside last o.chain,
-)
+own_agrees (n ∷ ns) (e ∷ es) groups out last o =
+    (o.name, chain_agrees ns es groups (text_from n.point o.inside o.splices_inside) last o.chain)
 own_agrees [] (e ∷ es) groups out last o = absurd o
 own_agrees (n ∷ ns) [] groups out last o = absurd o
 
 -- what is cut off a chain begins with a member
-pub cut_own : (ns0 : List Member) (es0 : List MemberEntry) (n : Member) (e : MemberEntry) (ns : List Member) (es : List MemberEntry)
-    (groups out : SplicedText) (last : List ℕ)
-    → Cut ns0 es0 n e ns es groups.bytes.items groups.splices.items 0 0 out.bytes.items out.splices.items last
-    → EndsWithMembers (n ∷ ns) (e ∷ es) groups out last
-cut_own ns0 es0 n e ns es groups out last c =
+pub cut_own : {B K : TextFrom → Type 0} (n : Member) (e : MemberEntry) (out : SplicedText)
+    → Seam B K n e (text_from text_begin out.bytes.items out.splices.items) → EndsWithMembersFrom K n e out
+cut_own n e out c =
     record {
       front = c.before ++ comma_before e.first;
       inside = c.behind;

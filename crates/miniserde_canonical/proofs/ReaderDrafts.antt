@@ -25,7 +25,7 @@ use Rattle.miniserde_text.specs.private.Moments.{opened_kind, first_or_after}
 use Rattle.miniserde_canonical.specs.CanonicalToken.{CanonicalToken, leaf, name, array, array_end, object, object_end, tokens}
 use Rattle.miniserde_canonical.specs.CanonicalToken as token
 use Rattle.miniserde_canonical.specs.declared.draft.Draft.{Draft}
-use Rattle.miniserde_canonical.specs.private.States.{comma_before, State, Closes, TokenStep, TokenSteps, start}
+use Rattle.miniserde_canonical.specs.private.States.{comma_before, State, Closes, TokenStep, TokenSteps, initial_state}
 use Rattle.miniserde_canonical.specs.private.Drafts.{Wrote, Holding, Represents, ChangesOnlyText, Recalls, draft_at}
 use Rattle.miniserde_canonical.specs.private.Drafts.{DraftTakes}
 use Rattle.miniserde_canonical.specs.private.EventTokens.{first_token, ReadsTokens}
@@ -156,21 +156,21 @@ takes_object_end {rest' = rest'} m d' k e f = λ s r h.
 
 -- ---- all tokens so far
 
--- tokens of j up to `rest` were read, up to the moment m inside st, and the draft d took them from `start` on
+-- tokens of j up to `rest` were read, up to the moment m inside st, and the draft d took them from `initial_state` on
 pub record Taken (j : List ℕ) (m : Moment) (st : List Kind) (rest : List ℕ) (d : Draft) : Type 0 where
   pub tokens : List CanonicalToken
   pub state : State
   pub reads : ReadsTokens due [] j tokens m st rest
-  pub run : TokenSteps tokens start state
+  pub run : TokenSteps tokens initial_state state
   pub represents : Represents d rest state
   pub recalls : Recalls m state
 
--- if ks are read from the beginning of j, and a draft that represents `start` takes them, `Taken` holds
+-- if ks are read from the beginning of j, and a draft that represents `initial_state` takes them, `Taken` holds
 pub taken_first : {j s rest : List ℕ} {st su : List Kind} {ks : List CanonicalToken} {m : Moment} {d d' : Draft}
-    → su ≡ [] → s ≡ j → Represents d j start → ReadsTokens due su s ks m st rest
+    → su ≡ [] → s ≡ j → Represents d j initial_state → ReadsTokens due su s ks m st rest
     → DraftTakes (draft_at due j d) ks (draft_at m rest d') → Taken j m st rest d'
 taken_first {j = j} {rest = rest} {st = st} {su = su} {ks = ks} {m = m} e f r p t =
-    let a = t start r tt in
+    let a = t initial_state r tt in
     record {
       tokens = ks;
       state = a.0;
@@ -193,7 +193,7 @@ taken_more {ks = ks} t p f =
       reads =
           ReadsTokens-append t.reads p;
       run =
-          steps_append t.tokens ks start t.state a.0 t.run a.1;
+          steps_append t.tokens ks initial_state t.state a.0 t.run a.1;
       represents = a.2;
       recalls = a.3;
     }
@@ -201,10 +201,10 @@ taken_more {ks = ks} t p f =
 -- if no container is open and only whitespace is left, the tokens taken are those of a tree that j spells
 pub taken_all : {j rest : List ℕ} {st : List Kind} {d : Draft} (f : Bool) → innermost st ≡ None
     → IsWhitespace rest → Taken j (first_or_after f) st rest d → (t : Tree) × (s : State) × IsJson j t
-    × TokenSteps (tokens t) start s × Represents d rest s
+    × TokenSteps (tokens t) initial_state s × Represents d rest s
 taken_all {st = st} f e w k =
     let t = end_ok f st e k.reads w in
-    (t.0, k.state, t.1, subst (λ z. TokenSteps z start k.state) t.2 k.run, k.represents)
+    (t.0, k.state, t.1, subst (λ z. TokenSteps z initial_state k.state) t.2 k.run, k.represents)
 
 -- the rest after whitespace and a part is no longer than the text
 pub stands_less : {P : List ℕ → Type 0} (s r : List ℕ) → Stands P s r → length r ≤ length s

@@ -12,12 +12,12 @@ use Rattle.miniserde_canonical.specs.declared.spread.Span.{Span}
 use Rattle.miniserde_canonical.specs.declared.spread.Splice.{Splice}
 use Rattle.miniserde_canonical.specs.declared.spread.SplicedText.{SplicedText}
 use Rattle.miniserde_canonical.specs.declared.member.Member.{Member}
-use Rattle.miniserde_canonical.specs.private.SplicedTexts.{Within, bytes_in, splices_in, shifted_splice, Holds, none, Ordered, AllBefore}
-use Rattle.miniserde_canonical.specs.private.WaitingSpans.{SpanHolds}
+use Rattle.miniserde_canonical.specs.private.SplicedTexts.{Within, bytes_in, splices_in, shifted_splice, Holds, none, text_begin}
+use Rattle.miniserde_canonical.specs.private.SplicedTexts.{Ordered, AllBefore}
 use Rattle.miniserde_canonical.specs.private.Members.{name_in, begin_of, end_of, members_at, begins_with_name, without_repeats}
-use Rattle.miniserde_canonical.specs.private.States.{comma_before, MemberEntry, entry_members, members_text, count}
+use Rattle.miniserde_canonical.specs.private.States.{comma_before, MemberEntry, entry_members, joined_texts, count}
 use Rattle.miniserde_canonical.specs.private.SortMembers.{EndsWithMembers, text_at, own_text_tree, IsEnd, Gains, PutsMember}
-use Rattle.miniserde_canonical.specs.private.SortMembers.{PutsMembers, texts, PutAt, PutsBack, SortsMembers}
+use Rattle.miniserde_canonical.specs.private.SortMembers.{PutsMembers, Texts, texts, PutAt, PutsBack, SortsMembers}
 use Rattle.miniserde_canonical.proofs.SplicedTexts.{between_end, between_none, holds_plain, plain_text, holds_append}
 use Rattle.miniserde_canonical.proofs.SplicedTexts.{holds_behind, holds_moved, group_holds, splice_holds, all_more}
 use Rattle.miniserde_canonical.proofs.SplicedTexts.{all_append, all_take, all_between, all_moved, ordered_gains}
@@ -43,7 +43,7 @@ pub record IsSpanOf (p : Span) (ns : List Member) (i : ℕ) (out : SplicedText) 
 -- if a comma (unless f is true) and the span of the member at i are appended, the groups gain that member
 pub gains_member : {groups mid groups' out : SplicedText} {ns : List Member} {i : ℕ} {p : Span} (f : Bool)
     → mid.bytes.items ≡ groups.bytes.items ++ comma_before f → mid.splices.items ≡ groups.splices.items
-    → IsSpanOf p ns i out → AppendsSpan out p mid groups' → PutsMember ns i f out groups groups'
+    → IsSpanOf p ns i out → AppendsSpan out p mid groups' → PutsMember ns i f (texts out groups) groups'
 gains_member {groups = groups} {mid = mid} {out = out} {ns = ns} {i = i} {p = p} f e g o a = λ es last base own.
     let ms = base.bytes.items in
     let gs = base.splices.items in
@@ -63,8 +63,8 @@ gains_member {groups = groups} {mid = mid} {out = out} {ns = ns} {i = i} {p = p}
         bytes_gained = a.bytes s.0 ∙ ap (λ z. z ++ bytes_in p out.bytes.items) e ∙ append_assoc groups.bytes.items
             (comma_before f) (bytes_in p out.bytes.items);
         splices_gained = a.splices s.0 ∙ ap (λ z. z ++ inner) g;
-        text = holds_behind ms gs (length groups.bytes.items) to (comma_before f) (bytes_in p out.bytes.items) inner x
-            far (holds_moved p.from.bytes to to (omega arith) (omega arith) s.1);
+        text = holds_behind (length groups.bytes.items) to (comma_before f) far
+            (holds_moved p.from.bytes to to (omega arith) (omega arith) s.1);
       };
       all_before = λ n h. all_moved n p.from.bytes to (splices_in p hs) (all_between n p.from.splices p.to.splices hs h);
     }
@@ -107,8 +107,8 @@ gains_append {a = a} {b = b} {y = y} g h =
 pub record PutsSoFar (ns : List Member) (order : List ℕ) (out groups groups' : SplicedText) (k n : ℕ) : Type 0 where
   pub so_far : (es : List MemberEntry) (last : List ℕ) (base : SplicedText) → EndsWithMembers ns es base out last
       → (x : List ℕ) × Gains base out groups groups' x
-      × (x ++ members_text (nat_eq n 0) (without_repeats (members_at ns (own_text_tree es last) (drop k order)))
-      ≡ members_text true (without_repeats (members_at ns (own_text_tree es last) order)))
+      × (x ++ joined_texts (nat_eq n 0) (without_repeats (members_at ns (own_text_tree es last) (drop k order)))
+      ≡ joined_texts true (without_repeats (members_at ns (own_text_tree es last) order)))
       × (n + count (without_repeats (members_at ns (own_text_tree es last) (drop k order)))
       ≡ count (without_repeats (members_at ns (own_text_tree es last) order)))
 
@@ -127,14 +127,14 @@ put_members_skips {ns = ns} {order = order} {k = k} {n = n} d l h g = record {
       let t = g.so_far es last base own in
       let same : without_repeats (members_at ns r (drop k order)) ≡ without_repeats
       (members_at ns r (drop (k + 1) order)) = kept_skip ns r order k d l (h r) in
-      (t.0, t.1, ap (λ z. t.0 ++ members_text (nat_eq n 0) z) (sym same) ∙ t.2, ap (λ z. n + count z) (sym same) ∙ t.3);
+      (t.0, t.1, ap (λ z. t.0 ++ joined_texts (nat_eq n 0) z) (sym same) ∙ t.2, ap (λ z. n + count z) (sym same) ∙ t.3);
 }
 
 -- a member whose name the next one in the order does not have is put, and n counts it
 pub put_members_takes : {ns : List Member} {order : List ℕ} {out groups mid groups' : SplicedText} {k n : ℕ} (d : ℕ)
     → k < length order → ((r : ℕ → Tree)
     → begins_with_name (name_in ns (get_or order k d)) (members_at ns r (drop (k + 1) order)) ≡ false)
-    → PutsMember ns (get_or order k d) (nat_eq n 0) out mid groups' → PutsSoFar ns order out groups mid k n
+    → PutsMember ns (get_or order k d) (nat_eq n 0) (texts out mid) groups' → PutsSoFar ns order out groups mid k n
     → PutsSoFar ns order out groups groups' (k + 1) (n + 1)
 put_members_takes {ns = ns} {order = order} {k = k} {n = n} d l h p g = record {
   so_far = λ es last base own.
@@ -145,13 +145,13 @@ put_members_takes {ns = ns} {order = order} {k = k} {n = n} d l h p g = record {
       let rest = without_repeats (members_at ns r (drop (k + 1) order)) in
       let same = kept_take ns r order k d l (h r) in
       let more : nat_eq (n + 1) 0 ≡ false = go n in
-      let text : t.0 ++ (comma_before (nat_eq n 0) ++ (y ++ members_text false rest)) ≡ members_text true
-      (without_repeats (members_at ns r order)) = ap (λ z. t.0 ++ members_text (nat_eq n 0) z) (sym same) ∙ t.2 in
+      let text : t.0 ++ (comma_before (nat_eq n 0) ++ (y ++ joined_texts false rest)) ≡ joined_texts true
+      (without_repeats (members_at ns r order)) = ap (λ z. t.0 ++ joined_texts (nat_eq n 0) z) (sym same) ∙ t.2 in
       let number : n + suc (count rest) ≡ count (without_repeats (members_at ns r order)) = ap (λ z. n + count z) (sym same) ∙ t.3 in (
         t.0 ++ (comma_before (nat_eq n 0) ++ y),
         gains_append t.1 (p es last base own),
-        ap (λ z. (t.0 ++ (comma_before (nat_eq n 0) ++ y)) ++ members_text z rest) more
-            ∙ rejoin t.0 (comma_before (nat_eq n 0)) y (members_text false rest) ∙ text,
+        ap (λ z. (t.0 ++ (comma_before (nat_eq n 0) ++ y)) ++ joined_texts z rest) more
+            ∙ rejoin t.0 (comma_before (nat_eq n 0)) y (joined_texts false rest) ∙ text,
         omega (arith, number),
       );
 }
@@ -164,12 +164,12 @@ put_members_takes {ns = ns} {order = order} {k = k} {n = n} d l h p g = record {
 
 -- at the end of the order, the groups have the members without repeats, and n is their number
 pub put_members_ends : {ns : List Member} {order : List ℕ} {out groups groups' : SplicedText} {k n : ℕ} → drop k order ≡ []
-    → PutsSoFar ns order out groups groups' k n → PutsMembers ns order out groups groups' n
+    → PutsSoFar ns order out groups groups' k n → PutsMembers ns order (texts out groups) groups' n
 put_members_ends {ns = ns} {order = order} {out = out} {groups = groups} {groups' = groups'} {n = n} e g = λ es last base own.
     let t = g.so_far es last base own in
     let r = own_text_tree es last in
-    let text : t.0 ≡ members_text true (without_repeats (members_at ns r order)) =
-    sym (ap (λ z. t.0 ++ members_text (nat_eq n 0) (without_repeats (members_at ns r z))) e ∙ append-nil t.0)
+    let text : t.0 ≡ joined_texts true (without_repeats (members_at ns r order)) =
+    sym (ap (λ z. t.0 ++ joined_texts (nat_eq n 0) (without_repeats (members_at ns r z))) e ∙ append-nil t.0)
     ∙ t.2 in (
       subst (λ z. Gains base out groups groups' z) text t.1,
       omega (arith, t.3, ap (λ z. count (without_repeats (members_at ns r z))) e),
@@ -251,11 +251,6 @@ back_splice {point = point} {to = to} {out = out} {mid = mid} {groups = groups} 
     let h = held.splices in
     let bytes = held.bytes_gained in
     let splices = held.splices_gained in
-    let put : SpanHolds (ms ++ b) (gs ++ h) p x =
-    group_holds ms b gs h x p start.bytes start.splices (end.bytes ∙ ap length bytes) (end.splices ∙ ap length splices) held.text in
-    let stands : SpanHolds groups.bytes.items groups.splices.items p x =
-    subst (λ z. SpanHolds z groups.splices.items p x) (sym bytes)
-    (subst (λ z. SpanHolds (ms ++ b) z p x) (sym splices) put) in
     let out_splices : out'.splices.items ≡ take point.splices out.splices.items ++ splice ∷ [] =
     oh ∙ ap (λ (y : List Splice). y ++ splice ∷ []) cut.splices in
     let many = ap length splices ∙ length-append gs h in
@@ -268,7 +263,7 @@ back_splice {point = point} {to = to} {out = out} {mid = mid} {groups = groups} 
       is_splices = out_splices;
       groups_bytes = bytes;
       groups_splices = splices;
-      text = splice_holds groups.bytes.items groups.splices.items point.bytes splice x refl stands;
+      text = splice_holds groups point.bytes splice x refl (group_holds p start end held);
       stay_in_order = λ g. (
         subst (λ z. Ordered 0 z) (sym splices) (ordered_gains gs h g.0 (a g.1)),
         subst (λ z. AllBefore (length groups.splices.items) z) (sym out_splices)
@@ -280,39 +275,36 @@ back_splice {point = point} {to = to} {out = out} {mid = mid} {groups = groups} 
 
 -- ---- an object
 
-first_point : (ns : List Member) (d : Member) → 0 < length ns → (get_or ns 0 d).point ≡ begin_of ns (record { bytes = 0; splices = 0 })
+first_point : (ns : List Member) (d : Member) → 0 < length ns → (get_or ns 0 d).point ≡ begin_of ns text_begin
 first_point [] d l = absurd (omega (arith, l))
 first_point (n ∷ ns) d l = refl
 
 own_within : (ns : List Member) (es : List MemberEntry) (groups out : SplicedText) (last : List ℕ)
     → EndsWithMembers ns es groups out last
-    → (begin_of ns (record { bytes = 0; splices = 0 })).bytes ≤ length out.bytes.items
+    → (begin_of ns text_begin).bytes ≤ length out.bytes.items
 own_within [] [] groups out last o = omega arith
 own_within (n ∷ ns) (e ∷ es) groups out last o = omega (arith, o.begins, ap length o.bytes, length-append o.front o.inside)
 own_within [] (e ∷ es) groups out last o = absurd o
 own_within (n ∷ ns) [] groups out last o = absurd o
 
 -- members put in sorted order into the groups, and then put back, are the members in normal form
-pub settled : {ns : List Member} {from : Point} {order : List ℕ} {groups : SplicedText} (d : Member)
-    (out mid out' groups' : SplicedText) (n : ℕ) → 0 < length ns → InNameOrder ns order → IsEnd from groups
-    → PutsMembers ns order out groups mid n → PutsBack (get_or ns 0 d).point from (texts out mid) (texts out' groups')
-    → SortsMembers ns (texts out groups) (texts out' groups') (nat_eq n (length ns))
-settled {ns = ns} {order = order} {groups = groups} d out mid out' groups' n some o end g p = λ es last own.
-    let agree = own_agrees ns es groups out last own in
-    let t = g es last groups own in
+pub settled : {ns : List Member} {from : Point} {order : List ℕ} (d : Member) (old : Texts) (mid : SplicedText)
+    (new : Texts) (n : ℕ) → 0 < length ns → InNameOrder ns order → IsEnd from old.groups → PutsMembers ns order old mid n
+    → PutsBack (get_or ns 0 d).point from (texts old.out mid) new → SortsMembers ns old new (nat_eq n (length ns))
+settled {ns = ns} {order = order} d old mid new n some o end g p = λ es last own.
+    let agree = own_agrees ns es old.groups old.out last own in
+    let t = g es last old.groups own in
     let r = own_text_tree es last in
     let sorted : without_repeats (members_at ns r order) ≡ norm_members (entry_members es last) =
     kept_normal ns es last order agree o in
     let gains = t.0 in
     let point = (get_or ns 0 d).point in
-    let here : point ≡ begin_of ns (record { bytes = 0; splices = 0 }) = first_point ns d some in
-    let within : point.bytes ≤ length out.bytes.items =
-    subst (λ z. z.bytes ≤ length out.bytes.items) (sym here) (own_within ns es groups out last own) in
-    let back = p groups (members_text true (without_repeats (members_at ns r order))) gains.appends end within
-    (gains.all_before (length groups.splices.items)) in (
-      subst (λ z. PutAt (begin_of ns (record { bytes = 0; splices = 0 })) (texts out groups) (texts out' groups')
-          (members_text true z)) sorted
-          (subst (λ z. PutAt z (texts out groups) (texts out' groups')
-          (members_text true (without_repeats (members_at ns r order)))) here back),
+    let here : point ≡ begin_of ns text_begin = first_point ns d some in
+    let within : point.bytes ≤ length old.out.bytes.items =
+    subst (λ z. z.bytes ≤ length old.out.bytes.items) (sym here) (own_within ns es old.groups old.out last own) in
+    let back = p old.groups (joined_texts true (without_repeats (members_at ns r order))) gains.appends end within
+    (gains.all_before (length old.groups.splices.items)) in (
+      subst (λ z. PutAt (begin_of ns text_begin) old new (joined_texts true z)) sorted
+          (subst (λ z. PutAt z old new (joined_texts true (without_repeats (members_at ns r order)))) here back),
       ap₂ nat_eq (t.1 ∙ ap count sorted) (sym (ended_count ns es last agree)),
     )

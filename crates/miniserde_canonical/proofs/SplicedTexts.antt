@@ -6,9 +6,11 @@ use Rattle.std.proofs.Math.Seq.{take-append_seam, drop-append_seam}
 use Rattle.std.proofs.lemmas.List.{take-append-le, drop-append-le, length-drop, take_all, drop_all}
 use Rattle.miniserde_canonical.specs.declared.spread.Span.{Span}
 use Rattle.miniserde_canonical.specs.declared.spread.Splice.{Splice}
+use Rattle.miniserde_canonical.specs.declared.spread.SplicedText.{SplicedText}
 use Rattle.miniserde_canonical.specs.private.SplicedTexts.{part_between, Within, bytes_in, splices_in, shifted_splice}
 use Rattle.miniserde_canonical.specs.private.SplicedTexts.{Holds, none, byte, splice, Ordered, AllBefore}
 use Rattle.miniserde_canonical.specs.private.WaitingSpans.{SpanHolds}
+use Rattle.miniserde_canonical.specs.private.SortMembers.{IsEnd, Appends}
 
 -- ---- between two points
 
@@ -57,9 +59,9 @@ holds_append {ms = ms} {gs = gs} {at = at} to cs ks y (splice {bs = bs} {hs = hs
     subst (λ z. Holds ms gs at (bs ++ cs) (h ∷ (hs ++ ks)) z) (sym (append_assoc w x y)) (splice h i p u (holds_append to cs ks y q e v))
 
 -- behind some bytes without splices
-pub holds_behind : (ms : List ℕ) (gs : List Splice) (at to : ℕ) (x bs : List ℕ) (hs : List Splice) (y : List ℕ)
+pub holds_behind : {ms : List ℕ} {gs : List Splice} (at to : ℕ) (x : List ℕ) {bs : List ℕ} {hs : List Splice} {y : List ℕ}
     → to ≡ at + length x → Holds ms gs to bs hs y → Holds ms gs at (x ++ bs) hs (x ++ y)
-holds_behind ms gs at to x bs hs y e v = holds_append to bs hs y (holds_plain ms gs at x) e v
+holds_behind {ms = ms} {gs = gs} at to x {bs = bs} {hs = hs} {y = y} e v = holds_append to bs hs y (holds_plain ms gs at x) e v
 
 pub within_more : (p : Span) (ms ns : List ℕ) (gs ks : List Splice) → Within p ms gs → Within p (ms ++ ns) (gs ++ ks)
 within_more p ms ns gs ks w = (w.0, omega (arith, w.1, length-append ms ns), w.2, omega (arith, w.3, length-append gs ks))
@@ -92,24 +94,32 @@ holds_moved {at = at} from to here l e (splice h i w u v) =
     let point : to + (h.at - from) ≡ here = ap (λ z. to + (z - from)) i ∙ sym e in
     splice (shifted_splice from to h) point w u (holds_moved from to here l e v)
 
--- the group of what was put at the end
-pub group_holds : (ms b : List ℕ) (gs h : List Splice) (x : List ℕ) (p : Span) → p.from.bytes ≡ length ms
-    → p.from.splices ≡ length gs → p.to.bytes ≡ length (ms ++ b) → p.to.splices ≡ length (gs ++ h)
-    → Holds ms gs (length ms) b h x → SpanHolds (ms ++ b) (gs ++ h) p x
-group_holds ms b gs h x p e f g i u =
-    let one : Holds (ms ++ b) (gs ++ h) p.from.bytes b h x = subst (λ z. Holds (ms ++ b) (gs ++ h) z b h x) (sym e) (holds_more b h u) in
-    let two : Holds (ms ++ b) (gs ++ h) p.from.bytes (bytes_in p (ms ++ b)) h x =
-    subst (λ z. Holds (ms ++ b) (gs ++ h) p.from.bytes z h x)
-    (sym (between_end p.from.bytes p.to.bytes (ms ++ b) ms b refl e g)) one in (
-      (omega (arith, e, g, length-append ms b), omega (arith, g), omega (arith, f, i, length-append gs h), omega (arith, i)),
-      subst (λ z. Holds (ms ++ b) (gs ++ h) p.from.bytes (bytes_in p (ms ++ b)) z x)
-          (sym (between_end p.from.splices p.to.splices (gs ++ h) gs h refl f i)) two,
+-- the span of the groups from the end of `base` to their own end holds what was appended to `base`
+pub group_holds : {base groups : SplicedText} {x : List ℕ} (p : Span) → IsEnd p.from base → IsEnd p.to groups
+    → Appends base base groups x → SpanHolds groups p x
+group_holds {base = base} {groups = groups} {x = x} p from to a =
+    let ms = groups.bytes.items in
+    let gs = groups.splices.items in
+    let bytes : bytes_in p ms ≡ a.bytes =
+    between_end p.from.bytes p.to.bytes ms base.bytes.items a.bytes a.bytes_gained from.bytes to.bytes in
+    let splices : splices_in p gs ≡ a.splices =
+    between_end p.from.splices p.to.splices gs base.splices.items a.splices a.splices_gained from.splices to.splices in
+    let all : Holds ms gs (length base.bytes.items) a.bytes a.splices x =
+    rw (a.bytes_gained, a.splices_gained) (holds_more a.bytes a.splices a.text) in (
+      (
+        omega (arith, from.bytes, to.bytes, ap length a.bytes_gained, length-append base.bytes.items a.bytes),
+        omega (arith, to.bytes),
+        omega (arith, from.splices, to.splices, ap length a.splices_gained, length-append base.splices.items a.splices),
+        omega (arith, to.splices),
+      ),
+      rw (bytes, splices, from.bytes) all,
     )
 
 -- no bytes and one splice at their index hold the text of the splice's group
-pub splice_holds : (ms : List ℕ) (gs : List Splice) (at : ℕ) (h : Splice) (x : List ℕ) → h.at ≡ at
-    → SpanHolds ms gs h.group x → Holds ms gs at [] (h ∷ []) x
-splice_holds ms gs at h x e s = subst (λ z. Holds ms gs at [] (h ∷ []) z) (append-nil x) (splice h e s.0 s.1 none)
+pub splice_holds : (groups : SplicedText) (at : ℕ) (h : Splice) (x : List ℕ) → h.at ≡ at → SpanHolds groups h.group x
+    → Holds groups.bytes.items groups.splices.items at [] (h ∷ []) x
+splice_holds groups at h x e s =
+    subst (λ z. Holds groups.bytes.items groups.splices.items at [] (h ∷ []) z) (append-nil x) (splice h e s.0 s.1 none)
 
 -- the first splice of a text
 pub record AtHole (ms : List ℕ) (gs : List Splice) (at : ℕ) (bs : List ℕ) (h : Splice) (hs : List Splice) (x : List ℕ) : Type 0 where

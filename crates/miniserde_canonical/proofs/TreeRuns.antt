@@ -13,8 +13,8 @@ use Rattle.miniserde_model.specs.Distinct.{names_distinct, names_distinct_in_chi
 use Rattle.miniserde_model.specs.Normal.{norm, norm_children, norm_members, with_if_absent, with_if_absent_by, text_cmp, BeginsAbove, Rise}
 use Rattle.miniserde_canonical.specs.CanonicalToken.{CanonicalToken, leaf, name, array_end, object, object_end}
 use Rattle.miniserde_canonical.specs.CanonicalToken.{tokens, child_tokens, member_tokens}
-use Rattle.miniserde_canonical.specs.private.States.{comma_before, MemberEntry, State, start, text_before}
-use Rattle.miniserde_canonical.specs.private.States.{entry_members, members_text, entries_text, count, once_each}
+use Rattle.miniserde_canonical.specs.private.States.{comma_before, MemberEntry, State, initial_state, text_before}
+use Rattle.miniserde_canonical.specs.private.States.{entry_members, joined_texts, entries_text, count, once_each}
 use Rattle.miniserde_canonical.specs.private.States.{Arranged, Closes, TokenStep, TokenSteps}
 use Rattle.miniserde_canonical.proofs.Repeats.{nested_names_distinct, distinct_counted}
 
@@ -94,9 +94,9 @@ lines_none s s' e = subst (λ z. Lines s z no_members) e
       lays = refl;
     })
 
-lines_cons : (n : List ℕ) (t : Tree) (ms : Members) (s m u s' : State) → TokenStep (name n) s m
+lines_cons : (n : List ℕ) (t : Tree) (ms : Members) (s : State) {m u s' : State} → TokenStep (name n) s m
     → Grows m u (compact (norm t)) (names_distinct t) → u.first ≡ false → Lines u s' ms → Lines s s' (member n t ms)
-lines_cons n t ms s m u s' a g f l =
+lines_cons n t ms s {m = m} {u = u} {s' = s'} a g f l =
     let e : MemberEntry = record { earlier_text = s.last; first = s.first; name = n } in
     let text : u.last ≡ row n (norm t) = g.last ∙ ap (λ z. z ++ compact (norm t)) a.1 ∙ append_assoc (string_text n)
     (58 ∷ []) (compact (norm t)) in
@@ -132,7 +132,7 @@ lays_ended [] (member n t ms) l f last h = absurd h
 lays_ended (e ∷ es) no_members l f last h = absurd h
 
 lays_whole : (es : List MemberEntry) (ms : Members) (l : List ℕ) (f : Bool) (last : List ℕ) → Lays es ms l f last
-    → entries_text es last ≡ l ++ members_text f (rows_of (mapped ms))
+    → entries_text es last ≡ l ++ joined_texts f (rows_of (mapped ms))
 lays_whole [] no_members l f last h = h ∙ sym (append-nil l)
 lays_whole (e ∷ es) (member n t ms) l f last h =
     ap₂ (λ (x : List ℕ) (y : Bool). x ++ (comma_before y ++ entries_text es last)) h.0 h.1
@@ -143,11 +143,11 @@ lays_whole (e ∷ es) no_members l f last h = absurd h
 -- ---- rows and normal forms
 
 mutual
-  spelled_first : (ms : Members) → members_text true (rows_of ms) ≡ compact_members ms
+  spelled_first : (ms : Members) → joined_texts true (rows_of ms) ≡ compact_members ms
   spelled_first no_members = refl
   spelled_first (member n t ms) = ap (λ z. row n t ++ z) (spelled_more ms)
 
-  spelled_more : (ms : Members) → members_text false (rows_of ms) ≡ compact_more_members ms
+  spelled_more : (ms : Members) → joined_texts false (rows_of ms) ≡ compact_more_members ms
   spelled_more no_members = refl
   spelled_more (member n t ms) = ap (λ z. 44 ∷ (row n t ++ z)) (spelled_more ms)
 
@@ -209,7 +209,7 @@ made_same es ms l s s' h r e d =
 
 made_sorted : (e : MemberEntry) (es : List MemberEntry) (ms : Members) (l : List ℕ) (s s' : State)
     → Lays (e ∷ es) ms l true s.last
-    → s'.last ≡ e.earlier_text ++ (comma_before e.first ++ members_text true (norm_members (entry_members (e ∷ es) s.last)))
+    → s'.last ≡ e.earlier_text ++ (comma_before e.first ++ joined_texts true (norm_members (entry_members (e ∷ es) s.last)))
     → s'.distinct ≡ (s.distinct && once_each (entry_members (e ∷ es) s.last)) → Made s s' l ms
 made_sorted e es no_members l s s' h p d = absurd h
 made_sorted e es (member n t ms) l s s' h p d =
@@ -222,8 +222,8 @@ made_sorted e es (member n t ms) l s s' h p d =
     ap count sorted ∙ rows_count (norm_members (member n t ms)) in
     record {
       last = p ∙ ap₂ (λ (x : List ℕ) (y : Bool).
-          x ++ (comma_before y ++ members_text true (norm_members (entry_members (e ∷ es) s.last)))) h.0 h.1
-          ∙ ap (λ z. l ++ z) (ap (members_text true) sorted ∙ spelled_first (norm_members (member n t ms)));
+          x ++ (comma_before y ++ joined_texts true (norm_members (entry_members (e ∷ es) s.last)))) h.0 h.1
+          ∙ ap (λ z. l ++ z) (ap (joined_texts true) sorted ∙ spelled_first (norm_members (member n t ms)));
       distinct = d ∙ ap₂ (λ (x y : ℕ). s.distinct && nat_eq x y) kept many;
     }
 
@@ -350,9 +350,9 @@ mutual
       let m = r.0 in
       let u = run_split (tokens t) (member_tokens ms) m s' r.2 in
       let a = tree_grows t m u.0 u.1 in
-      lines_cons n t ms s m u.0 s' r.1 a.0 a.1 (members_grow ms u.0 s' u.2)
+      lines_cons n t ms s r.1 a.0 a.1 (members_grow ms u.0 s' u.2)
 
 -- a run over a tree's tokens makes the canonical text and no entries, and `distinct` is `names_distinct`
-pub steps_make : (t : Tree) (s : State) → TokenSteps (tokens t) start s → (s.last ≡ compact (norm t)) × (s.entries ≡ [])
+pub steps_make : (t : Tree) (s : State) → TokenSteps (tokens t) initial_state s → (s.last ≡ compact (norm t)) × (s.entries ≡ [])
     × (s.distinct ≡ names_distinct t)
-steps_make t s r = let g = tree_grows t start s r in (g.0.last, g.0.entries, g.0.distinct)
+steps_make t s r = let g = tree_grows t initial_state s r in (g.0.last, g.0.entries, g.0.distinct)

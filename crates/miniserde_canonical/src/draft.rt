@@ -16,9 +16,9 @@ ghost use Rattle.miniserde_text.specs.private.Escape.{escapes};
 ghost use Rattle.miniserde_text.specs.private.Moments.{opened_kind};
 ghost use Rattle.miniserde_canonical.specs.CanonicalToken.{name};
 ghost use Rattle.miniserde_canonical.specs.private.EventTokens.{first_token};
-ghost use Rattle.miniserde_canonical.specs.private.Plain.{TextPlain, SpellsToken, NameSpelled};
-ghost use Rattle.miniserde_canonical.specs.private.States.{State, TokenStep, Closes, comma_before, start};
-ghost use Rattle.miniserde_canonical.specs.private.Drafts.{Wrote, Holding, ChangesOnlyText, Represents};
+ghost use Rattle.miniserde_canonical.specs.private.Plain.{TextPlain, PartIsToken, NameSpelled};
+ghost use Rattle.miniserde_canonical.specs.private.States.{State, TokenStep, Closes, comma_before, initial_state};
+ghost use Rattle.miniserde_canonical.specs.private.Drafts.{Wrote, Holding, TakesPart, ChangesOnlyText, Represents};
 
 use crate::member::{Member, Name};
 use crate::members::rises;
@@ -63,7 +63,7 @@ pub(crate) struct Draft<'a> {
 impl<'a> Draft<'a> {
     /// Returns the draft of an input from which nothing was read yet.
     pub(crate) fn new(alloc: Global, input: &'a str) -> Draft<'a>
-        ensures { Represents result input.now start }
+        ensures { Represents result input.now initial_state }
     {
         Draft {
             alloc,
@@ -132,8 +132,8 @@ impl<'a> Draft<'a> {
     ) -> Result<Option<Kind>, AllocError>
         ensures opens { (x : List ℕ) → IfOk result (λ k. k ≡ opened_kind (event_of_token token.entry x)) }
         ensures takes { OnOk result ((rest part rest' x : List ℕ) (s s' : State) → Represents self.old rest s
-            → rest ≡ part ++ rest' → span.at ≡ length rest → span.end ≡ length rest'
-            → SpelledToken escapes token.entry escaped.now x → SpellsToken token.entry x part
+            → TakesPart span rest part rest'
+            → SpelledToken escapes token.entry escaped.now x → PartIsToken token.entry x part
             → TokenStep (first_token (event_of_token token.entry x)) s s' → Represents self.new rest' s') }
     {
         match token {
@@ -174,10 +174,10 @@ impl<'a> Draft<'a> {
         span: InputSpan,
     ) -> Result<(), AllocError>
         requires { TextPlain text }
+        // The comma before the name was read already, so `Wrote` has it. The state s gets it only with the name.
         ensures { OnOk result ((rest part rest' before : List ℕ) (s s' : State)
             → Wrote self.old rest (before ++ comma_before s.first) → Holding self.old before s
-            → rest ≡ part ++ rest' → span.at ≡ length rest → span.end ≡ length rest'
-            → NameSpelled text.entry part → s.first ≡ first
+            → TakesPart span rest part rest' → NameSpelled text.entry part → s.first ≡ first
             → TokenStep (name (text_of text.entry scratch.now)) s s' → Represents self.new rest' s') }
     {
         // The member begins at the end of the text, once the run up to its name is there.
@@ -197,8 +197,8 @@ impl<'a> Draft<'a> {
     #[inline(always)]
     fn spell(&mut self, text: Text<'_>, scratch: &str, span: InputSpan) -> Result<(), AllocError>
         requires { TextPlain text }
-        ensures wrote { OnOk result ((rest part rest' bs : List ℕ) → Wrote self.old rest bs → rest ≡ part ++ rest'
-            → span.at ≡ length rest → span.end ≡ length rest' → NameSpelled text.entry part
+        ensures wrote { OnOk result ((rest part rest' bs : List ℕ) → Wrote self.old rest bs
+            → TakesPart span rest part rest' → NameSpelled text.entry part
             → Wrote self.new rest' (bs ++ (string_text (text_of text.entry scratch.now) ++ 58 ∷ []))) }
         ensures only_text { OnOk result (ChangesOnlyText self.old self.new) }
     {

@@ -41,7 +41,7 @@ fn put_group(
     later: &mut Vec<Span>,
 ) -> Result<(), AllocError>
     requires { Ordered 0 groups.now.splices.items }
-    ensures { OnOk result ((x : List ℕ) → SpanHolds groups.now.bytes.items groups.now.splices.items group x
+    ensures { OnOk result ((x : List ℕ) → SpanHolds groups.now group x
         → out.new.items ≡ out.old.items ++ x) }
 {
     later.clear();
@@ -61,9 +61,9 @@ fn put_span(
     out: &mut Vec<u8>,
     later: &mut Vec<Span>,
 ) -> Result<(), AllocError>
-    ensures ok { OnOk result ((x y : List ℕ) → SpanHolds groups.now.bytes.items groups.now.splices.items span x
-        → SpansHold groups.now.bytes.items groups.now.splices.items later.old.items y
-        → (z : List ℕ) × SpansHold groups.now.bytes.items groups.now.splices.items later.new.items z
+    ensures ok { OnOk result ((x y : List ℕ) → SpanHolds groups.now span x
+        → SpansHold groups.now later.old.items y
+        → (z : List ℕ) × SpansHold groups.now later.new.items z
         × (out.new.items ++ z ≡ out.old.items ++ (x ++ y))) }
     ensures less { OnOk result (Ordered 0 groups.now.splices.items
         → spans_measure later.new.items < spans_measure later.old.items + span_measure span) }

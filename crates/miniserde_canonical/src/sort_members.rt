@@ -45,7 +45,7 @@ fn put_members(
     out: &SplicedText,
     groups: &mut SplicedText,
 ) -> Result<usize, AllocError>
-    ensures { IfOk result (λ n. PutsMembers members.now order.now out.now groups.old groups.new n) }
+    ensures { IfOk result (λ n. PutsMembers members.now order.now (texts out.now groups.old) groups.new n) }
 {
     let mut number = 0usize;
     for k in 0..order.len() {
@@ -67,7 +67,7 @@ fn put_member(
     out: &SplicedText,
     groups: &mut SplicedText,
 ) -> Result<(), AllocError>
-    ensures { OnOk result (PutsMember members.now i first out.now groups.old groups.new) }
+    ensures { OnOk result (PutsMember members.now i first (texts out.now groups.old) groups.new) }
 {
     put_comma(first, &mut groups.bytes)?;
     groups.append(out, span_of(members, i, out.end()))?;

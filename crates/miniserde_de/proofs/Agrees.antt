@@ -10,7 +10,8 @@ use Rattle.miniserde_keys.specs.Keys.{Key}
 use Rattle.miniserde_read.specs.types.Arrays.{exactly, array_of}
 use Rattle.miniserde_read.specs.types.Pairs.{PairReads, pair_of, both}
 use Rattle.miniserde_read.specs.types.Objects.{Name, after_members}
-use Rattle.miniserde_read.specs.types.Maps.{AllAccepted, MapReads, EntryFits, MapContent, no_entries, with_entry, map_member, map_of}
+use Rattle.miniserde_read.specs.types.Maps.{KeyMeaning, AllAccepted, MapReads, EntryFits, MapContent, no_entries, with_entry}
+use Rattle.miniserde_read.specs.types.Maps.{map_member, map_of}
 use Rattle.miniserde_read.specs.Meaning.{Meaning}
 use Rattle.miniserde_read.specs.Meanings.{list_meaning, array_meaning, option_meaning, box_meaning, pair_meaning, map_meaning}
 use Rattle.miniserde_places.specs.Tied.{Agree}
@@ -212,17 +213,16 @@ means_to m n a content None (Some x) h = h
 means_to m n a content (Some p) None h = h
 means_to m n a content (Some p) (Some x) h = (h.0, (a.same p.1 x.1).0 h.1)
 
-map_to : {K V : Type 0} (read : Name → Option Key) (code : Key → Key) (key : K → Key) (m n : Meaning V)
-    (a : Agree m n) (t : Tree) (es : List (K × V)) → MapReads read code key m.from_tree m.reads t es
-    → MapReads read code key n.from_tree n.reads t es
-map_to read code key m n a (members ms) es h =
-    (taken_to read code m.from_tree n.from_tree a.some ms h.0, λ q. means_to m n a key _ _ (h.1 q))
-map_to read code key m n a t es h = absurd h
+map_to : {K V : Type 0} (k : KeyMeaning K) (m n : Meaning V) (a : Agree m n) (t : Tree) (es : List (K × V))
+    → MapReads k.read k.code k.content m.from_tree m.reads t es → MapReads k.read k.code k.content n.from_tree n.reads t es
+map_to k m n a (members ms) es h =
+    (taken_to k.read k.code m.from_tree n.from_tree a.some ms h.0, λ q. means_to m n a k.content _ _ (h.1 q))
+map_to k m n a t es h = absurd h
 
 -- if m and n agree, so do the meanings of maps whose values m and n mean
-pub map_agree : {K V W : Type 0} (read : Name → Option Key) (code : Key → Key) (key : K → Key) (m n : Meaning V)
-    (f : W → List (K × V)) → Agree m n → Agree (map_meaning read code key m f) (map_meaning read code key n f)
-map_agree read code key m n f a = record {
-  same = λ t v. (map_to read code key m n a t (f v), map_to read code key n m (agree_back m n a) t (f v));
-  some = map_some read code m.from_tree n.from_tree a.some;
+pub map_agree : {K V W : Type 0} (k : KeyMeaning K) (m n : Meaning V) (f : W → List (K × V)) → Agree m n
+    → Agree (map_meaning k m f) (map_meaning k n f)
+map_agree k m n f a = record {
+  same = λ t v. (map_to k m n a t (f v), map_to k n m (agree_back m n a) t (f v));
+  some = map_some k.read k.code m.from_tree n.from_tree a.some;
 }

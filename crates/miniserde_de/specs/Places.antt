@@ -105,17 +105,19 @@ unique_place_meaning = place_meaning unique_meaning (outcome true true (outside 
       refused = refusal_of p.place;
     })
 
+-- the view of the place of a type of documents: its outcome is what the events to come make of its hole
+abbrev pub document_view : {K V : Type 0} (k : DocumentMeaning V) → DocumentTypePlace K → PlaceView k.by_trees.Content
+document_view k p = record {
+  at = place_at p.place;
+  outcome = λ es. k.only (document_outcome k.begins (due_in p.place) (hole_at p.place) es);
+  refused = refusal_of p.place;
+}
+
 -- the meaning of the place of a type of documents (`Array`, `Object` or `Document`), by the meaning k of that type; K
 -- is the type's marker
 abbrev pub document_place_meaning : {K V : Type 0} → DocumentMeaning V → PlaceMeaning (DocumentTypePlace K) V
 document_place_meaning k = place_meaning k.by_trees (λ es. k.only (document_outcome k.begins true (outside []) es)) k.events_agree
-    (λ p. record {
-      at = (depth (hole_at p.place), due_in p.place);
-      outcome =
-          λ es. k.only (document_outcome k.begins (due_in p.place) (hole_at p.place) es);
-      refused =
-          refusal_of p.place;
-    })
+    (document_view k)
 
 -- the meaning of the place of a `Number`: the leaf of a number means that number
 abbrev pub number_place_meaning : PlaceMeaning NumberPlace Number

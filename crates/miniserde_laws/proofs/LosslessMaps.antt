@@ -18,7 +18,8 @@ use Rattle.miniserde_keys.specs.Keys.{Key}
 use Rattle.miniserde_keys.specs.laws.Keys.{ReadsBack}
 use Rattle.miniserde_read.specs.types.Objects.{Name}
 use Rattle.miniserde_read.specs.types.Maps.{entry_at, map_content}
-use Rattle.miniserde_read.proofs.Entries.{same, same_code, code_same, contains-cases, contains-first, contains-later, found, at-contained}
+use Rattle.miniserde_read.proofs.Entries.{same, equal_if_tested, tested_if_equal, contains-cases, contains-first, contains-later}
+use Rattle.miniserde_read.proofs.Entries.{found, at-contained}
 use Rattle.miniserde_ser.specs.Trees.{members_of, in_order}
 
 -- the order of members doesn't count for what stands at a name
@@ -68,7 +69,7 @@ module _ {K V C : Type 0} (read : Name → Option Key) (code : Key → Key) (con
   stands e (d ∷ es) c = elim (contains-cases d e es c) as (λ _. (t : Tree) × (last_of (text e.0) (members_of text f (d ∷ es)) ≡ Some t)) [
     | inl s ↦ elim (last_of (text e.0) (members_of text f es))
         as (λ o. (t : Tree) × (or_else o (cond (bytes_eq (text d.0) (text e.0)) (Some (f d.1)) None) ≡ Some t)) [
-          | None ↦ (f d.1, rw (code_same (text d.0) (text e.0) (ap (λ z. text z.0) s)) refl)
+          | None ↦ (f d.1, rw (tested_if_equal (text d.0) (text e.0) (ap (λ z. text z.0) s)) refl)
           | Some t ↦ (t, refl)
         ]
     | inr m ↦ let r = stands e es m in (r.0, rw r.1 refl)
@@ -85,7 +86,7 @@ module _ {K V C : Type 0} (read : Name → Option Key) (code : Key → Key) (con
         | None ↦ λ r. elim (bytes_eq (text d.0) n)
             as (λ b. bytes_eq (text d.0) n ≡ b → cond b (Some (f d.1)) None ≡ Some t
             → (e : K × V) × Contains (d ∷ es) e × (text e.0 ≡ n) × (f e.1 ≡ t)) [
-              | true ↦ λ b h. (d, contains-first d es, same_code _ _ b, same_Some _ _ h)
+              | true ↦ λ b h. (d, contains-first d es, equal_if_tested _ _ b, same_Some _ _ h)
               | false ↦ λ b h. absurd (cc)
             ] refl
         | Some u ↦ λ r h. let e = entry_of n es t (r ∙ h) in (e.0, contains-later d e.0 es e.1, e.2, e.3)

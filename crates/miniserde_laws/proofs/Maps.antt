@@ -18,7 +18,7 @@ use Rattle.miniserde_keys.specs.Keys.{Key}
 use Rattle.miniserde_keys.specs.laws.Keys.{ReadsBack}
 use Rattle.miniserde_read.specs.types.Objects.{Name}
 use Rattle.miniserde_read.specs.types.Maps.{first_and_last, first_and_last_at, AllAccepted, entry_at, EntryFits, MapReads}
-use Rattle.miniserde_read.proofs.Entries.{same, same_code, code_same, found}
+use Rattle.miniserde_read.proofs.Entries.{same, equal_if_tested, tested_if_equal, found}
 use Rattle.miniserde_ser.specs.Trees.{members_of, in_order}
 use Rattle.miniserde_ser.proofs.Names.{distinct_names}
 use Rattle.miniserde_ser.proofs.Ordered.{names}
@@ -98,7 +98,7 @@ module _ {K V C : Type 0} (read : Name → Option Key) (code : Key → Key) (con
       go (k ∷ ks) a = (
         elim (bytes_eq (code_of k) q) as (λ b. bytes_eq (code_of k) q ≡ b → b ≡ false) [
           | false ↦ λ b. refl
-          | true ↦ λ b. absurd (true≢false (sym (code_same (code_of e.0) (code_of k) (s ∙ sym (same_code _ _ b))) ∙ a.0))
+          | true ↦ λ b. absurd (true≢false (sym (tested_if_equal (code_of e.0) (code_of k) (s ∙ sym (equal_if_tested _ _ b))) ∙ a.0))
         ] refl,
         go ks a.1,
       )
@@ -116,7 +116,7 @@ module _ {K V C : Type 0} (read : Name → Option Key) (code : Key → Key) (con
       → EntryFits content R (first_and_last (cond c (Some (content b.0)) None) (f e.1)
       (first_and_last_at read code q (members_of text f es)))
       (cond c (Some (b.0, v.0)) (entry_at code_of q (read_of es h.1)))) [
-        | true ↦ λ c. rw (none_met q es h.1 (others_apart q e es d (sym b.3 ∙ same_code _ _ c))) (refl, v.2)
+        | true ↦ λ c. rw (none_met q es h.1 (others_apart q e es d (sym b.3 ∙ equal_if_tested _ _ c))) (refl, v.2)
         | false ↦ λ c. met_read q es h.1 d.1
       ] refl)
 
@@ -147,7 +147,7 @@ module _ {K V C : Type 0} (read : Name → Option Key) (code : Key → Key) (con
       (first_and_last_at read code q (members_of text f es))) o
       → written code_of text f (cond c (Some e) (entry_at code_of q es)) ≡ written code_of text f o) [
         | true ↦ λ c n.
-            let at : code_of e.0 ≡ q = sym b.3 ∙ same_code _ _ c in
+            let at : code_of e.0 ≡ q = sym b.3 ∙ equal_if_tested _ _ c in
             one_written q e (content b.0) h.0.1 at o r (rw (none_met q es h.1 (others_apart q e es d at)) at n)
         | false ↦ λ c n. met_written q es h.1 d.1 o r n
       ] refl (rw b.2 at m))
@@ -173,7 +173,7 @@ module _ {K V C : Type 0} (read : Name → Option Key) (code : Key → Key) (con
 
     -- the order looks at codes alone
     same_order : (a b x : K) → code_of a ≡ code_of b → cmp a x ≡ cmp b x
-    same_order a b x s = total.congr a b x ((Equal-is (cmp a b)).0 (agrees a b ∙ code_same _ _ s))
+    same_order a b x s = total.congr a b x ((Equal-is (cmp a b)).0 (agrees a b ∙ tested_if_equal _ _ s))
 
     order_same : (a b c d : K) → code_of a ≡ code_of b → code_of c ≡ code_of d → cmp a c ≡ cmp b d
     order_same a b c d s t = same_order a b c s ∙ total.antisymm b c ∙ ap ordering_reverse (same_order c d b t) ∙ sym (total.antisymm b d)
@@ -229,7 +229,7 @@ module _ {K V C : Type 0} (read : Name → Option Key) (code : Key → Key) (con
       (first_and_last_at read code q (members_of text f es))) [
         | false ↦ λ c. met_other read code of q (text e.0) (f e.1) (in_order (members_of text f es)) (rw (b.2, c) refl) ∙ rest
         | true ↦ λ c.
-            let none = none_met q es h.1 (others_apart q e es d (sym b.3 ∙ same_code _ _ c)) in
+            let none = none_met q es h.1 (others_apart q e es d (sym b.3 ∙ equal_if_tested _ _ c)) in
             met_first read code of q (text e.0) (f e.1) (content b.0) (in_order (members_of text f es))
             (rw (b.2, c) refl) (rest ∙ none) ∙ ap (first_and_last (Some (content b.0)) (f e.1)) (sym none)
       ] refl ∙ rw b.2 refl

@@ -16,7 +16,7 @@ use Rattle.miniserde_model.specs.Tree.{Tree}
 use Rattle.miniserde_keys.specs.Keys.{Key}
 use Rattle.miniserde_text.proofs.Equal.{bytes_eq-flips}
 use Rattle.miniserde_read.specs.types.Maps.{entry_at}
-use Rattle.miniserde_read.proofs.Entries.{same_code, code_same}
+use Rattle.miniserde_read.proofs.Entries.{equal_if_tested, tested_if_equal}
 use Rattle.miniserde_read.proofs.Inserts.{absent-below}
 use Rattle.miniserde_ser.specs.Trees.{members_of}
 use Rattle.miniserde_laws.proofs.Agree.{written, Agree}
@@ -30,7 +30,7 @@ module _ {K V : Type 0} (code : K → Key) (text : K → List ℕ) (f : V → Tr
   -- what is written of the first entry
   first_written : (q : Key) (e : K × V) (es : List (K × V)) → code e.0 ≡ q
       → written code text f (entry_at code q (e ∷ es)) ≡ Some (text e.0, f e.1)
-  first_written q e es s = rw (code_same (code e.0) q s) refl
+  first_written q e es s = rw (tested_if_equal (code e.0) q s) refl
 
   -- below the first key there is none
   below_none : (k : K) (e : K × V) (es : List (K × V)) → InOrder (e ∷ es) → cmp k e.0 ≡ Less → entry_at code (code k) (e ∷ es) ≡ None
@@ -51,7 +51,7 @@ module _ {K V : Type 0} (code : K → Key) (text : K → List ℕ) (f : V → Tr
       as (λ b. bytes_eq (code e.0) q ≡ b → written code text f (entry_at code q es) ≡ written code text f
       (entry_at code q fs)) [
         | true ↦ λ b.
-            let at : code e.0 ≡ q = same_code _ _ b in
+            let at : code e.0 ≡ q = equal_if_tested _ _ b in
             let here : entry_at code q es ≡ None = rw at at (later_none e.0 es (sorted_head cmp e.0 (keys_of es) o)) in
             let there : entry_at code q fs ≡ None = rw (sym s ∙ at) at (later_none g.0 fs (sorted_head cmp g.0 (keys_of fs) p)) in
             rw (here, there) refl
@@ -67,7 +67,7 @@ module _ {K V : Type 0} (code : K → Key) (text : K → List ℕ) (f : V → Tr
       let right = first_written (code g.0) g fs refl in
       elim (cmp e.0 g.0) as (λ b. cmp e.0 g.0 ≡ b → members_of text f (e ∷ es) ≡ members_of text f (g ∷ fs)) [
         | Equal ↦ λ c.
-            let s : code e.0 ≡ code g.0 = same_code _ _ (sym (agrees e.0 g.0) ∙ ap is_eq c) in
+            let s : code e.0 ≡ code g.0 = equal_if_tested _ _ (sym (agrees e.0 g.0) ∙ ap is_eq c) in
             let one = same_Some _ _ (sym left ∙ a (code e.0) ∙ first_written (code e.0) g fs (sym s)) in
             rw (
               ap (λ z. z.0) one,

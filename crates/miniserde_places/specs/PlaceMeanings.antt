@@ -27,10 +27,9 @@ use Rattle.miniserde_places.specs.Pairs.{pair_rules}
 use Rattle.miniserde_places.specs.laws.Pairs.{pair-meant}
 use Rattle.miniserde_places.specs.Options.{option_mean}
 use Rattle.miniserde_places.specs.laws.Options.{option-meant}
-use Rattle.miniserde_read.specs.types.Objects.{Name}
 use Rattle.miniserde_places.specs.Objects.{object_rules, is_element}
 use Rattle.miniserde_read.specs.Meanings.{list_meaning, array_meaning, pair_meaning, option_meaning, box_meaning, map_meaning}
-use Rattle.miniserde_read.specs.types.Maps.{map_member, map_content, no_entries, with_entry}
+use Rattle.miniserde_read.specs.types.Maps.{KeyMeaning, map_member, map_content, no_entries, with_entry}
 use Rattle.miniserde_places.specs.laws.Maps.{map-meant}
 
 -- the meaning of a list's collector, by the meaning m of an item's place: `items` returns the items
@@ -90,21 +89,19 @@ pair_collector m n first second child one two = record {
   refuses = λ s e. is_member e || (is_some s.0 && is_some s.1);
 }
 
--- The meaning of a map's collector. `read` returns the content of the key that a name is read as,
--- `code` the part of this content that `Eq` compares, and `key` the content of a key; m is the
--- meaning of a value's place. `entries` returns the entries so far, `child` the current value's key and place, and
--- `whole` a complete map's entries.
-abbrev pub map_collector : {K P V C W : Type 0} → (Name → Option Key) → (Key → Key) → (K → Key) → PlaceMeaning P V
-    → (C → List (K × V)) → (C → Option (K × P)) → (W → List (K × V)) → CollectorMeaning C W
-map_collector read code key m entries child whole = record {
-  by_trees = map_meaning read code key (type_meaning m) whole;
+-- The meaning of a map's collector, by the meanings k of its keys and m of a value's place. `entries` returns the entries
+-- so far, `child` the current value's key and place, and `whole` a complete map's entries.
+abbrev pub map_collector : {K P V C W : Type 0} → KeyMeaning K → PlaceMeaning P V → (C → List (K × V))
+    → (C → Option (K × P)) → (W → List (K × V)) → CollectorMeaning C W
+map_collector k m entries child whole = record {
+  by_trees = map_meaning k (type_meaning m) whole;
   State = Key → Option (Key × m.Content);
-  state = λ c. map_content code key m.content (entries c);
+  state = λ c. map_content k.code k.content m.content (entries c);
   empty = no_entries;
   is_object = true;
-  rules = object_rules (map_member read code m.from_events) (λ s. Some s);
-  events_agree = map-meant read code m.from_events m.from_tree m.events_agree;
-  child = λ c. child_view (λ q x. Some (with_entry code (map_content code key m.content (entries c)) (key q.0) x))
+  rules = object_rules (map_member k.read k.code m.from_events) (λ s. Some s);
+  events_agree = map-meant k.read k.code m.from_events m.from_tree m.events_agree;
+  child = λ c. child_view (λ q x. Some (with_entry k.code (map_content k.code k.content m.content (entries c)) (k.content q.0) x))
       (λ q. m.view q.1) (child c);
   refuses = λ _ e. is_element e;
 }

@@ -2,7 +2,7 @@
 //! map has the first key and the last value.
 ghost use Rattle.std.specs.Prelude.{◌≡◌, [], List, Option, None, Ok, IfOk, OnErr, IsErrOf};
 ghost use Rattle.miniserde_model.specs.declared.error.Error.TheVariants.{Memory};
-ghost use Rattle.miniserde_read.specs.types.Maps.{map_content, with_entry};
+ghost use Rattle.miniserde_read.specs.types.Maps.{key_meaning, map_content, with_entry};
 ghost use Rattle.miniserde_places.specs.PlaceMeanings.{map_collector};
 
 use miniserde_keys::MapKey;
@@ -26,7 +26,7 @@ pub struct MapOf<M, K, P> {
 impl<P: Visitor, M: Table<Value = P::Out>> Collect for MapOf<M, M::Key, P> {
     type Out = M;
 
-    ghost collector_meaning = { map_collector M.Key.read M.Key.code M.Key.content P.meaning
+    ghost collector_meaning = { map_collector (key_meaning M.Key.read M.Key.code M.Key.content) P.meaning
         (λ c. M.entries c.table) (λ c. c.child) M.entries };
 
     fn new(alloc: Global) -> MapOf<M, M::Key, P> {

@@ -25,9 +25,9 @@ module _ {V : Type 0} (n m : Meaning V) (same : SameMeaning n m) where
       → checked_of accepts m.from_tree t ≡ None
   checked-nothing accepts t e = rw (same.given_same t, e) refl
 
-  -- a tree means by the one what it means by the other
-  pub same-reads : (t : Tree) (v : V) → n.reads t v → m.reads t v
-  same-reads t v h = (m.reads_agrees t v).1 (same-given t v ((n.reads_agrees t v).0 h))
+  -- what a tree means by the first, it means by the second
+  pub reads-there : (t : Tree) (v : V) → n.reads t v → m.reads t v
+  reads-there t v h = (m.reads_agrees t v).1 (same-given t v ((n.reads_agrees t v).0 h))
 
   given-back : (t : Tree) (v : V) (o : Option n.Content) → option_map same.there o ≡ Some (same.there (n.content v))
       → o ≡ Some (n.content v)
@@ -36,9 +36,9 @@ module _ {V : Type 0} (n m : Meaning V) (same : SameMeaning n m) where
       let f : same.there c ≡ same.there (n.content v) = cc in
       ap Some (sym (same.undone c) ∙ ap same.back f ∙ same.undone (n.content v))
 
-  -- and the other way round
-  pub same-read : (t : Tree) (v : V) → m.reads t v → n.reads t v
-  same-read t v h =
+  -- what a tree means by the second, it means by the first
+  pub reads-back : (t : Tree) (v : V) → m.reads t v → n.reads t v
+  reads-back t v h =
       let e = sym (same.given_same t) ∙ (m.reads_agrees t v).0 h ∙ ap Some (same.content_same v) in
       (n.reads_agrees t v).1 (given-back t v (n.from_tree t) e)
 

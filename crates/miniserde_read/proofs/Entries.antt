@@ -17,12 +17,12 @@ use Rattle.miniserde_text.proofs.Equal.{bytes_eq-flips}
 use Rattle.miniserde_read.specs.types.Maps.{entry_at}
 
 -- if the test of equality holds for two codes, they are equal
-pub same_code : (a b : Key) → bytes_eq a b ≡ true → a ≡ b
-same_code a b h = (bytes_eq-Decides a b).0 h
+pub equal_if_tested : (a b : Key) → bytes_eq a b ≡ true → a ≡ b
+equal_if_tested a b h = (bytes_eq-Decides a b).0 h
 
 -- the test of equality holds for equal codes
-pub code_same : (a b : Key) → a ≡ b → bytes_eq a b ≡ true
-code_same a b h = (bytes_eq-Decides a b).1 h
+pub tested_if_equal : (a b : Key) → a ≡ b → bytes_eq a b ≡ true
+tested_if_equal a b h = (bytes_eq-Decides a b).1 h
 
 -- an element of a list is its first or one of the others
 pub contains-cases : {X : Type 0} (y x : X) (xs : List X) → Contains (y ∷ xs) x → (y ≡ x) ⊎ Contains xs x
@@ -55,7 +55,7 @@ module _ {K V : Type 0} (code : K → Key) where
       as (λ b. bytes_eq (code f.0) q ≡ b → cond b (Some f) (entry_at code q es) ≡ Some e → Contains (f ∷ es) e
       × (code e.0 ≡ q)) [
         | true ↦ λ b g. let s : f ≡ e = same_Some f e g in
-            (subst (Contains (f ∷ es)) s (contains-first f es), subst (λ z. code z.0 ≡ q) s (same_code _ _ b))
+            (subst (Contains (f ∷ es)) s (contains-first f es), subst (λ z. code z.0 ≡ q) s (equal_if_tested _ _ b))
         | false ↦ λ b g. let r = found q es e g in (contains-later f e es r.0, r.1)
       ] refl h
 
@@ -64,7 +64,7 @@ module _ {K V : Type 0} (code : K → Key) where
   unfolding IsDistinct
   at-contained q [] e d c h = absurd (omega (arith, c.1))
   at-contained q (f ∷ es) e d c h = elim (contains-cases f e es c) as (λ _. entry_at code q (f ∷ es) ≡ Some e) [
-    | inl s ↦ rw (code_same (code f.0) q (ap (λ z. code z.0) s ∙ h)) (ap Some s)
+    | inl s ↦ rw (tested_if_equal (code f.0) q (ap (λ z. code z.0) s ∙ h)) (ap Some s)
     | inr r ↦
         let apart : bytes_eq (code f.0) (code e.0) ≡ false = of-contained (λ k. bytes_eq (code f.0) (code k) ≡ false) es e d.0 r in
         let no : bytes_eq (code f.0) q ≡ false = subst (λ z. bytes_eq (code f.0) z ≡ false) h apart in

@@ -18,7 +18,7 @@ use Rattle.std.proofs.lemmas.Map.{none_passes_from_lookup}
 use Rattle.std.proofs.lemmas.Map.Keys.{IsDistinct-IsPermutation, sorted_tail}
 use Rattle.miniserde_keys.specs.Keys.{Key}
 use Rattle.miniserde_read.specs.types.Maps.{MapContent, entry_at, present_key_or, with_entry, map_content}
-use Rattle.miniserde_read.proofs.Entries.{same_code, same, none-at, at-permuted}
+use Rattle.miniserde_read.proofs.Entries.{equal_if_tested, same, none-at, at-permuted}
 use Rattle.miniserde_text.proofs.Equal.{bytes_eq-flips}
 
 module _ {K V C : Type 0} (code : Key → Key) (content : K → Key) (value : V → C) where
@@ -36,7 +36,7 @@ module _ {K V C : Type 0} (code : Key → Key) (content : K → Key) (value : V 
       as (λ b. bytes_eq (code_of k) q ≡ b → option_map show (cond b (Some (k, v)) (entry_at code_of q es))
       ≡ cond b (Some (present_key_or (option_map show (entry_at code_of q es)) (content k), value v))
       (option_map show (entry_at code_of q es))) [
-        | true ↦ λ b. let none : entry_at code_of q es ≡ None = subst (λ r. entry_at code_of r es ≡ None) (same_code _ _ b) n in
+        | true ↦ λ b. let none : entry_at code_of q es ≡ None = subst (λ r. entry_at code_of r es ≡ None) (equal_if_tested _ _ b) n in
             rw none refl
         | false ↦ λ b. refl
       ] refl
@@ -65,7 +65,9 @@ module _ {K V C : Type 0} (code : Key → Key) (content : K → Key) (value : V 
       ≡ cond (bytes_eq (code_of k) q)
       (Some (present_key_or (option_map show (cond b (Some e) (entry_at code_of q es))) (content k), value v))
       (option_map show (cond b (Some e) (entry_at code_of q es)))) [
-        | true ↦ λ b. let d : bytes_eq (code_of k) q ≡ false = subst (λ r. bytes_eq (code_of k) r ≡ false) (same_code _ _ b) n in rw d refl
+        | true ↦ λ b.
+            let d : bytes_eq (code_of k) q ≡ false = subst (λ r. bytes_eq (code_of k) r ≡ false) (equal_if_tested _ _ b) n in
+            rw d refl
         | false ↦ λ b. h
       ] refl
 
@@ -89,7 +91,7 @@ module _ {K V C : Type 0} (code : Key → Key) (content : K → Key) (value : V 
         (match_ordering o ((k, v) ∷ e ∷ es) ((e.0, v) ∷ es) (e ∷ insert_entry cmp es k v)) q ≡ with_entry code
         (map_content code content value (e ∷ es)) (content k) (value v) q) [
           | Less ↦ λ c. in-front (e ∷ es) k v q (absent-below k e es s c)
-          | Equal ↦ λ c. takes-first e es k v q (same_code _ _ (sym (agrees k e.0) ∙ ap is_eq c))
+          | Equal ↦ λ c. takes-first e es k v q (equal_if_tested _ _ (sym (agrees k e.0) ∙ ap is_eq c))
           | Greater ↦ λ c. takes-later e es (insert_entry cmp es k v) k v q (sym (agrees k e.0) ∙ ap is_eq c)
               (inserted-at es k v q (sorted_tail cmp e.0 (keys_of es) s))
         ] refl
@@ -111,7 +113,7 @@ module _ {K V C : Type 0} (code : Key → Key) (content : K → Key) (value : V 
         elim (eq k e.0) as (λ b. eq k e.0 ≡ b → cond b (Some e.1) (lookup (eq k) es) ≡ Some w
         → map_content code content value (cond b ((e.0, v) ∷ es) (e ∷ set_value (eq k) es v)) q
         ≡ with_entry code (map_content code content value (e ∷ es)) (content k) (value v) q) [
-          | true ↦ λ b g. takes-first e es k v q (same_code _ _ (sym (agrees k e.0) ∙ b))
+          | true ↦ λ b g. takes-first e es k v q (equal_if_tested _ _ (sym (agrees k e.0) ∙ b))
           | false ↦ λ b g. takes-later e es (set_value (eq k) es v) k v q (sym (agrees k e.0) ∙ b) (set-at es k v w q g)
         ] refl h
 

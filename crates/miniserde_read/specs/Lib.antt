@@ -1,4 +1,3 @@
-pub mod Children
 pub mod Due
 pub mod Escaped
 pub mod Items

@@ -1,7 +1,6 @@
 -- The meanings of std's types, by the meanings m and n of their parts; V and U are the parts' types, W is the whole.
 use Rattle.std.specs.Prelude.{ℕ, ℤ, pos, Bool, List, map, Option, Some, option_map, ◌≡◌, refl, ⊤}
 use Rattle.miniserde_model.specs.Tree.{null, truth, str}
-use Rattle.miniserde_keys.specs.Keys.{Key}
 use Rattle.miniserde_read.specs.Meaning.{Meaning, meaning_with}
 use Rattle.miniserde_read.specs.types.Words.{unit_of, boolean_of, string_of}
 use Rattle.miniserde_read.specs.laws.Words.{unit-given, truth-given, text-given}
@@ -15,8 +14,7 @@ use Rattle.miniserde_read.specs.types.Pairs.{PairReads, pair_of}
 use Rattle.miniserde_read.specs.laws.Pairs.{pair-given}
 use Rattle.miniserde_read.specs.types.Options.{OptionReads, option_of}
 use Rattle.miniserde_read.specs.laws.Options.{option-given}
-use Rattle.miniserde_read.specs.types.Objects.{Name}
-use Rattle.miniserde_read.specs.types.Maps.{MapReads, map_of, map_content}
+use Rattle.miniserde_read.specs.types.Maps.{KeyMeaning, MapReads, map_of, map_content}
 use Rattle.miniserde_read.specs.laws.Maps.{map-given}
 
 -- the meaning of `()`: `null` means it
@@ -75,10 +73,9 @@ option_meaning m =
 abbrev pub box_meaning : {V W : Type 0} → Meaning V → (W → V) → Meaning W
 box_meaning m value = meaning_with (λ b. m.content (value b)) m.from_tree (λ t b. m.reads t (value b)) (λ t b. m.reads_agrees t (value b))
 
--- The meaning of a map, of which `entries` returns the entries, with values by m. `read` returns the content of the
--- key that a name is read as, `code` the part of this content that `Eq` compares, and `key` the content of a key.
-abbrev pub map_meaning : {K V W : Type 0} → (Name → Option Key) → (Key → Key) → (K → Key) → Meaning V → (W → List (K × V)) → Meaning W
-map_meaning read code key m entries =
-    meaning_with (λ v. map_content code key m.content (entries v)) (map_of read code m.from_tree)
-    (λ t v. MapReads read code key m.from_tree m.reads t (entries v))
-    (λ t v. map-given read code key m.from_tree m.content m.reads m.reads_agrees t (entries v))
+-- the meaning of a map, of which `entries` returns the entries, with keys by k and values by m
+abbrev pub map_meaning : {K V W : Type 0} → KeyMeaning K → Meaning V → (W → List (K × V)) → Meaning W
+map_meaning k m entries =
+    meaning_with (λ v. map_content k.code k.content m.content (entries v)) (map_of k.read k.code m.from_tree)
+    (λ t v. MapReads k.read k.code k.content m.from_tree m.reads t (entries v))
+    (λ t v. map-given k.read k.code k.content m.from_tree m.content m.reads m.reads_agrees t (entries v))

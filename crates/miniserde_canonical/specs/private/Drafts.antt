@@ -5,7 +5,8 @@ use Rattle.std.specs.Prelude.{◌≡◌, ℕ, true, false, List, ◌++◌, lengt
 use Rattle.miniserde_model.specs.private.Reading.{Moment, due, first, after}
 use Rattle.miniserde_canonical.specs.CanonicalToken.{CanonicalToken}
 use Rattle.miniserde_canonical.specs.declared.draft.Draft.{Draft}
-use Rattle.miniserde_canonical.specs.private.SplicedTexts.{SplicesInOrder}
+use Rattle.miniserde_canonical.specs.declared.draft.InputSpan.{InputSpan}
+use Rattle.miniserde_canonical.specs.private.SplicedTexts.{SplicesInOrder, text_begin, text_from}
 use Rattle.miniserde_canonical.specs.private.SortMembers.{Chain}
 use Rattle.miniserde_canonical.specs.private.States.{State, TokenSteps}
 
@@ -22,7 +23,7 @@ pub record Wrote (d : Draft) (rest bs : List ℕ) : Type 0 where
 -- of s; its text, once the splices are filled, is the text of s; and the two have the same `opened` and the same
 -- `distinct`. The flag `first` of s is left out, since a draft has none.
 pub record Holding (d : Draft) (bs : List ℕ) (s : State) : Type 0 where
-  pub chain : Chain d.members.items s.entries d.groups.bytes.items d.groups.splices.items 0 0 bs d.out.splices.items s.last
+  pub chain : Chain d.members.items s.entries d.groups (text_from text_begin bs d.out.splices.items) s.last
   pub good : SplicesInOrder d.groups.splices.items d.out.splices.items
   pub opened : d.opened.items ≡ s.opened
   pub distinct : d.is_distinct ≡ s.distinct
@@ -32,6 +33,12 @@ pub record Represents (d : Draft) (rest : List ℕ) (s : State) : Type 0 where
   pub bytes : List ℕ
   pub wrote : Wrote d rest bytes
   pub holding : Holding d bytes s
+
+-- the span takes the bytes `part` of the input: `rest` is left at its start, and rest' after its end
+pub record TakesPart (span : InputSpan) (rest part rest' : List ℕ) : Type 0 where
+  pub text : rest ≡ part ++ rest'
+  pub at : span.at ≡ length rest
+  pub end : span.end ≡ length rest'
 
 -- From d to d' the splices, the groups, the members, the open objects and `is_distinct` stay. The bytes of the text and
 -- the run may change, and so may `order` and `escaped`, which are room.

@@ -1,6 +1,5 @@
--- How the members of an object that closes are put in order, in the text and in the groups. ms and gs: the bytes and
--- splices of the groups; bs and hs: the bytes and splices of a text. The text that bs and hs hold is bs with the text
--- of its group put in at each splice (`Holds`).
+-- How the members of an object that closes are put in order, in the text and in the groups. A text with splices holds
+-- its bytes with the text of its group put in at each splice (`Holds`).
 use Rattle.std.specs.Prelude.{◌≡◌, ◌≤◌, ◌+◌, ℕ, Bool, true, List, [], ◌∷◌, ◌++◌, length, take, drop, ⊤}
 use Rattle.miniserde_model.specs.Tree.{Tree, str}
 use Rattle.miniserde_model.specs.Normal.{norm_members}
@@ -8,43 +7,39 @@ use Rattle.miniserde_canonical.specs.declared.spread.Point.{Point}
 use Rattle.miniserde_canonical.specs.declared.spread.Splice.{Splice}
 use Rattle.miniserde_canonical.specs.declared.spread.SplicedText.{SplicedText}
 use Rattle.miniserde_canonical.specs.declared.member.Member.{Member}
-use Rattle.miniserde_canonical.specs.private.SplicedTexts.{Holds, AllBefore, SplicesInOrder}
+use Rattle.miniserde_canonical.specs.private.SplicedTexts.{Holds, text_begin, TextFrom, text_from, FilledPart, AllBefore, SplicesInOrder}
 use Rattle.miniserde_canonical.specs.private.MemberNames.{name_of}
 use Rattle.miniserde_canonical.specs.private.Members.{begin_of, members_at, without_repeats}
-use Rattle.miniserde_canonical.specs.private.States.{MemberEntry, text_before, entry_members, comma_before, members_text, count, once_each}
+use Rattle.miniserde_canonical.specs.private.States.{MemberEntry, text_before, entry_members, comma_before, joined_texts, count, once_each}
 
 -- The member n, which stands for the entry e, splits a text at the comma before it, or where it begins if it is the
--- first of its object. B holds of the bytes and the splices before that point, and K of those from the member on. The
--- bytes bs have indices from `at` on, and the splices hs from k on.
-pub record Seam (B K : List ℕ → List Splice → Type 0) (n : Member) (e : MemberEntry) (at k : ℕ) (bs : List ℕ) (hs : List Splice) :
-    Type 0 where
+-- first of its object. B holds of the part before that point, and K of the part from the member on.
+pub record Seam (B K : TextFrom → Type 0) (n : Member) (e : MemberEntry) (text : TextFrom) : Type 0 where
   pub before : List ℕ
   pub behind : List ℕ
   pub splices_before : List Splice
   pub splices_behind : List Splice
-  pub bytes : bs ≡ before ++ (comma_before e.first ++ behind)
-  pub splices : hs ≡ splices_before ++ splices_behind
+  pub bytes : text.bytes ≡ before ++ (comma_before e.first ++ behind)
+  pub splices : text.splices ≡ splices_before ++ splices_behind
   pub name : name_of n.name ≡ e.name
   pub first : n.first ≡ e.first
-  pub begins : n.point.bytes ≡ at + length (before ++ comma_before e.first)
-  pub begins_splices : n.point.splices ≡ k + length splices_before
-  pub is_before : B before splices_before
-  pub is_behind : K behind splices_behind
+  pub begins : n.point.bytes ≡ text.from.bytes + length (before ++ comma_before e.first)
+  pub begins_splices : n.point.splices ≡ text.from.splices + length splices_before
+  pub is_before : B (text_from text.from before splices_before)
+  pub is_behind : K (text_from n.point behind splices_behind)
 
--- The bytes bs, with indices from `at` on, and the splices hs, with indices from k on, hold the
--- text before each of the entries es, for which the members ns stand, and then the text `last`.
-abbrev pub Chain : List Member → List MemberEntry → List ℕ → List Splice → ℕ → ℕ → List ℕ → List Splice → List ℕ → Type 0
-Chain [] [] ms gs at k bs hs last = Holds ms gs at bs hs last
-Chain (n ∷ ns) (e ∷ es) ms gs at k bs hs last =
-    Seam (λ b h. Holds ms gs at b h e.earlier_text) (λ c g. Chain ns es ms gs n.point.bytes n.point.splices c g last) n e at k bs hs
-Chain _ _ ms gs at k bs hs last = ⊥
+-- over the groups, the part `text` holds the text before each of the entries es, for which the members ns stand, and
+-- then the text `last`
+abbrev pub Chain : List Member → List MemberEntry → SplicedText → TextFrom → List ℕ → Type 0
+Chain [] [] groups text last = FilledPart groups text last
+Chain (n ∷ ns) (e ∷ es) groups text last =
+    Seam (λ part. FilledPart groups part e.earlier_text) (λ part. Chain ns es groups part last) n e text
+Chain _ _ groups text last = ⊥
 
 -- ---- the members of one object, at the end of a text
 
--- over the groups, the text `out` ends with the texts of the entries e and es, for which the members n and ns stand; the
--- last one's text is `last`
-pub record EndsWithMembersFrom (n : Member) (ns : List Member) (e : MemberEntry) (es : List MemberEntry) (groups out : SplicedText)
-    (last : List ℕ) : Type 0 where
+-- the text `out` ends with the member n, which stands for the entry e, and those after it; K holds of the part from n on
+pub record EndsWithMembersFrom (K : TextFrom → Type 0) (n : Member) (e : MemberEntry) (out : SplicedText) : Type 0 where
   pub front : List ℕ
   pub inside : List ℕ
   pub splices_front : List Splice
@@ -54,13 +49,13 @@ pub record EndsWithMembersFrom (n : Member) (ns : List Member) (e : MemberEntry)
   pub begins : n.point.bytes ≡ length front
   pub behind : n.point.splices ≡ length splices_front
   pub name : name_of n.name ≡ e.name
-  pub chain : Chain ns es groups.bytes.items groups.splices.items n.point.bytes n.point.splices inside splices_inside last
+  pub chain : K (text_from n.point inside splices_inside)
 
 -- over the groups, the text `out` ends with the texts of the entries es, for which the members ns stand, the last one's
 -- being `last`; without members it is any text
 abbrev pub EndsWithMembers : List Member → List MemberEntry → SplicedText → SplicedText → List ℕ → Type 0
 EndsWithMembers [] [] groups out last = ⊤
-EndsWithMembers (n ∷ ns) (e ∷ es) groups out last = EndsWithMembersFrom n ns e es groups out last
+EndsWithMembers (n ∷ ns) (e ∷ es) groups out last = EndsWithMembersFrom (λ part. Chain ns es groups part last) n e out
 EndsWithMembers _ _ groups out last = ⊥
 
 -- the first entry's own text, from its name to before the next comma: the next entry has it as the text before it, and
@@ -96,20 +91,6 @@ pub record Gains (base out groups groups' : SplicedText) (x : List ℕ) : Type 0
   pub appends : Appends base groups groups' x
   pub all_before : (n : ℕ) → AllBefore n out.splices.items → AllBefore n appends.splices
 
--- to `groups`, the text of the member of ns at the index i in `out` is appended, with a comma before it unless f is
--- true
-abbrev pub PutsMember : List Member → ℕ → Bool → SplicedText → SplicedText → SplicedText → Type 0
-PutsMember ns i f out groups groups' = (es : List MemberEntry) (last : List ℕ) (base : SplicedText)
-    → EndsWithMembers ns es base out last → Gains base out groups groups' (comma_before f ++ text_at (drop i es) last)
-
--- to `groups`, the texts of the members of ns at the indices in `order` are appended, without those whose name the
--- next one has, and with commas between; n is how many these are
-abbrev pub PutsMembers : List Member → List ℕ → SplicedText → SplicedText → SplicedText → ℕ → Type 0
-PutsMembers ns order out groups groups' n = (es : List MemberEntry) (last : List ℕ) (base : SplicedText)
-    → EndsWithMembers ns es base out last → Gains base out groups groups'
-    (members_text true (without_repeats (members_at ns (own_text_tree es last) order)))
-    × (n ≡ count (without_repeats (members_at ns (own_text_tree es last) order)))
-
 -- the text of a draft, and its groups
 pub record Texts : Type 0 where
   pub out : SplicedText
@@ -118,6 +99,21 @@ pub record Texts : Type 0 where
 -- the text `out` with the groups
 abbrev pub texts : SplicedText → SplicedText → Texts
 texts out groups = record { out = out; groups = groups }
+
+-- from the groups of `old` to groups', the text of the member of ns at the index i in the old text is appended, with a
+-- comma before it unless f is true
+abbrev pub PutsMember : List Member → ℕ → Bool → Texts → SplicedText → Type 0
+PutsMember ns i f old groups' = (es : List MemberEntry) (last : List ℕ) (base : SplicedText)
+    → EndsWithMembers ns es base old.out last
+    → Gains base old.out old.groups groups' (comma_before f ++ text_at (drop i es) last)
+
+-- from the groups of `old` to groups', the texts of the members of ns at the indices in `order` are appended, without
+-- those whose name the next one has, and with commas between; n is how many these are
+abbrev pub PutsMembers : List Member → List ℕ → Texts → SplicedText → ℕ → Type 0
+PutsMembers ns order old groups' n = (es : List MemberEntry) (last : List ℕ) (base : SplicedText)
+    → EndsWithMembers ns es base old.out last → Gains base old.out old.groups groups'
+    (joined_texts true (without_repeats (members_at ns (own_text_tree es last) order)))
+    × (n ≡ count (without_repeats (members_at ns (own_text_tree es last) order)))
 
 -- The text of `new` is that of `old` cut off at the point, with `bytes` and `splices` appended, which hold the text x
 -- over the new groups. These are the old groups with more appended. If the splices of the old text were in order over
@@ -147,5 +143,5 @@ PutsBack point from old new = (base : SplicedText) (x : List ℕ) → (a : Appen
 -- whether no two of their names are equal
 abbrev pub SortsMembers : List Member → Texts → Texts → Bool → Type 0
 SortsMembers ns old new b = (es : List MemberEntry) (last : List ℕ) → EndsWithMembers ns es old.groups old.out last
-    → PutAt (begin_of ns (record { bytes = 0; splices = 0 })) old new
-    (members_text true (norm_members (entry_members es last))) × (b ≡ once_each (entry_members es last))
+    → PutAt (begin_of ns text_begin) old new
+    (joined_texts true (norm_members (entry_members es last))) × (b ≡ once_each (entry_members es last))

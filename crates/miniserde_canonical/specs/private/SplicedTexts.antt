@@ -1,5 +1,6 @@
 -- Texts with splices: bytes, and points at which the texts of groups belong.
 use Rattle.std.specs.Prelude.{◌≡◌, ◌≤◌, ◌-◌, ◌+◌, ℕ, suc, List, [], ◌∷◌, ◌++◌, length, take, drop, ⊤}
+use Rattle.miniserde_canonical.specs.declared.spread.Point.{Point}
 use Rattle.miniserde_canonical.specs.declared.spread.Span.{Span}
 use Rattle.miniserde_canonical.specs.declared.spread.Splice.{Splice}
 use Rattle.miniserde_canonical.specs.declared.spread.SplicedText.{SplicedText}
@@ -38,6 +39,24 @@ pub data Holds : List ℕ → List Splice → ℕ → List ℕ → List Splice �
 -- `text` is the text x once each of its splices is filled with its group
 abbrev pub FilledText : SplicedText → SplicedText → List ℕ → Type 0
 FilledText groups text x = Holds groups.bytes.items groups.splices.items 0 text.bytes.items text.splices.items x
+
+-- the point at which a text begins
+abbrev pub text_begin : Point
+text_begin = record { bytes = 0; splices = 0 }
+
+-- a part of a text with splices, which begins there at the point `from`
+pub record TextFrom : Type 0 where
+  pub from : Point
+  pub bytes : List ℕ
+  pub splices : List Splice
+
+-- the part with these bytes and splices, from that point on
+abbrev pub text_from : Point → List ℕ → List Splice → TextFrom
+text_from from bytes splices = record { from = from; bytes = bytes; splices = splices }
+
+-- `part` is the text x once each of its splices is filled with its group
+abbrev pub FilledPart : SplicedText → TextFrom → List ℕ → Type 0
+FilledPart groups part x = Holds groups.bytes.items groups.splices.items part.from.bytes part.bytes part.splices x
 
 -- ---- groups in order
 

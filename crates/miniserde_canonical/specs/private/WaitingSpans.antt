@@ -2,18 +2,18 @@
 -- text that its bytes are once each of its splices is filled with its group (`Holds`).
 use Rattle.std.specs.Prelude.{◌≡◌, ◌-◌, ◌+◌, ◌^◌, ℕ, List, [], ◌∷◌, ◌++◌}
 use Rattle.miniserde_canonical.specs.declared.spread.Span.{Span}
-use Rattle.miniserde_canonical.specs.declared.spread.Splice.{Splice}
-use Rattle.miniserde_canonical.specs.private.SplicedTexts.{Holds, Within, bytes_in, splices_in}
+use Rattle.miniserde_canonical.specs.declared.spread.SplicedText.{SplicedText}
+use Rattle.miniserde_canonical.specs.private.SplicedTexts.{Within, bytes_in, splices_in, text_from, FilledPart}
 
--- the span p of the groups, which have the bytes ms and the splices gs, holds the text x
-abbrev pub SpanHolds : List ℕ → List Splice → Span → List ℕ → Type 0
-SpanHolds ms gs p x = Within p ms gs × Holds ms gs p.from.bytes (bytes_in p ms) (splices_in p gs) x
+-- the span p of the groups holds the text x
+abbrev pub SpanHolds : SplicedText → Span → List ℕ → Type 0
+SpanHolds groups p x = Within p groups.bytes.items groups.splices.items
+    × FilledPart groups (text_from p.from (bytes_in p groups.bytes.items) (splices_in p groups.splices.items)) x
 
--- the spans of the groups, which have the bytes ms and the splices gs, hold the text x if they are
--- written from the last one to the first
-abbrev pub SpansHold : List ℕ → List Splice → List Span → List ℕ → Type 0
-SpansHold ms gs [] x = x ≡ []
-SpansHold ms gs (p ∷ ps) x = (y z : List ℕ) × SpansHold ms gs ps y × SpanHolds ms gs p z × (x ≡ y ++ z)
+-- the spans of the groups hold the text x if they are written from the last one to the first
+abbrev pub SpansHold : SplicedText → List Span → List ℕ → Type 0
+SpansHold groups [] x = x ≡ []
+SpansHold groups (p ∷ ps) x = (y z : List ℕ) × SpansHold groups ps y × SpanHolds groups p z × (x ≡ y ++ z)
 
 -- a bound on the calls of `put_span` that write the span: each splice counts for more than all
 -- splices before it

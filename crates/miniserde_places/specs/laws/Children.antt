@@ -8,8 +8,7 @@ use Rattle.miniserde_model.proofs.Events.{events_complete}
 use Rattle.miniserde_place.specs.Leaf.{nothing_more}
 use Rattle.miniserde_place.specs.Container.{Rules, between_children, inside_child, after_opening}
 use Rattle.miniserde_place.specs.laws.Container.{inside-split}
-use Rattle.miniserde_read.specs.Children.{after_children}
-use Rattle.miniserde_places.specs.Children.{after_all_children}
+use Rattle.miniserde_places.specs.Children.{after_children, after_all_children}
 
 -- the events of the children and of the end begin with some event
 begins : (ts : Trees) → (e : Step) × (es : List Step) × (child_events ts ++ finish ∷ [] ≡ e ∷ es)

@@ -5,10 +5,8 @@ use Rattle.miniserde_model.specs.Tree.{Tree, list, Trees, no_trees, tree}
 use Rattle.miniserde_model.specs.Step.{Step, events}
 use Rattle.miniserde_place.specs.Container.{between_children, after_opening}
 use Rattle.miniserde_read.specs.types.Lists.{each, list_of}
-use Rattle.miniserde_read.specs.Children.{with_last}
 use Rattle.miniserde_places.specs.Lists.{list_rules}
-use Rattle.miniserde_read.specs.Children.{after_children}
-use Rattle.miniserde_places.specs.Children.{after_all_children}
+use Rattle.miniserde_places.specs.Children.{after_children, with_last, after_all_children}
 use Rattle.miniserde_places.specs.laws.Children.{after_all_children-meant}
 
 -- ---- what a list gives

@@ -4,12 +4,10 @@ use Rattle.std.specs.Prelude.{option_and_then, option_map, false}
 use Rattle.miniserde_model.specs.Tree.{Tree, list, no_trees, tree}
 use Rattle.miniserde_model.specs.Step.{Step, events}
 use Rattle.miniserde_place.specs.Container.{between_children, after_opening}
-use Rattle.miniserde_read.specs.Children.{after_children}
-use Rattle.miniserde_places.specs.Children.{after_all_children}
+use Rattle.miniserde_places.specs.Children.{after_children, after_all_children}
 use Rattle.miniserde_places.specs.laws.Children.{after_all_children-meant}
 use Rattle.miniserde_read.specs.types.Pairs.{both, pair_of}
-use Rattle.miniserde_read.specs.Children.{pair_next}
-use Rattle.miniserde_places.specs.Pairs.{pair_rules}
+use Rattle.miniserde_places.specs.Pairs.{pair_next, pair_rules}
 
 -- ---- two children, one by one
 

@@ -8,6 +8,16 @@ use Rattle.miniserde_keys.specs.Keys.{Key}
 use Rattle.miniserde_read.specs.types.Objects.{Name, object_of, after_members}
 use Rattle.miniserde_read.specs.types.Words.{boolean_of}
 
+-- how the keys K of a map are read and compared; `content` returns the content of a key
+pub record KeyMeaning (K : Type 0) : Type 0 where
+  pub read : Name → Option Key
+  pub code : Key → Key
+  pub content : K → Key
+
+-- the meaning of keys that has these parts
+abbrev pub key_meaning : {K : Type 0} → (Name → Option Key) → (Key → Key) → (K → Key) → KeyMeaning K
+key_meaning read code content = record { read = read; code = code; content = content }
+
 -- ---- what a map's tree means
 
 -- the key, if there is one and its code is q

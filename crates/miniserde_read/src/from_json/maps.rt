@@ -6,7 +6,7 @@ ghost use Rattle.miniserde_model.specs.declared.error.Error.TheVariants.{Memory}
 ghost use Rattle.miniserde_read.specs.Meanings.{map_meaning};
 ghost use Rattle.miniserde_read.specs.Rest.{GivesAt, GivesNoneAt};
 ghost use Rattle.miniserde_read.specs.Events.{EventInRange};
-ghost use Rattle.miniserde_read.specs.types.Maps.{map_content, with_entry};
+ghost use Rattle.miniserde_read.specs.types.Maps.{key_meaning, map_content, with_entry};
 
 use super::FromJson;
 use crate::source::Source;
@@ -90,11 +90,11 @@ fn read_table<'a, V: FromJson, M: Table<Value = V>>(
     requires event { EventInRange (event_of_token token source.old.scratch) }
     ensures going { IfOk result (λ _. source.new.refused ≡ None) }
     ensures ok { IfOk result (λ v.
-        GivesAt (map_meaning M.Key.read M.Key.code M.Key.content V.means M.entries).from_tree
+        GivesAt (map_meaning (key_meaning M.Key.read M.Key.code M.Key.content) V.means M.entries).from_tree
         (event_of_token token.entry source.old.scratch) source.old.rest source.new.rest
-        ((map_meaning M.Key.read M.Key.code M.Key.content V.means M.entries).content v)) }
+        ((map_meaning (key_meaning M.Key.read M.Key.code M.Key.content) V.means M.entries).content v)) }
     ensures invalid { result ≡ Err Error.Invalid
-        → GivesNoneAt (map_meaning M.Key.read M.Key.code M.Key.content V.means M.entries).from_tree
+        → GivesNoneAt (map_meaning (key_meaning M.Key.read M.Key.code M.Key.content) V.means M.entries).from_tree
         (event_of_token token.entry source.old.scratch) source.old.rest }
 {
     let Event::MapStart = token else {
@@ -113,7 +113,7 @@ fn read_table<'a, V: FromJson, M: Table<Value = V>>(
 }
 
 impl<K: MapKey + Ord, V: FromJson> FromJson for BTreeMap<K, V> {
-    ghost means = { map_meaning K.read K.code K.content V.means (λ v. v.entries) };
+    ghost means = { map_meaning (key_meaning K.read K.code K.content) V.means (λ v. v.entries) };
 
     fn missing() -> Option<BTreeMap<K, V>> {
         None
@@ -125,7 +125,7 @@ impl<K: MapKey + Ord, V: FromJson> FromJson for BTreeMap<K, V> {
 }
 
 impl<K: MapKey + Hash, V: FromJson, H: BuildHasher + Default + Drop> FromJson for HashMap<K, V, H> {
-    ghost means = { map_meaning K.read K.code K.content V.means (λ v. v.entries) };
+    ghost means = { map_meaning (key_meaning K.read K.code K.content) V.means (λ v. v.entries) };
 
     fn missing() -> Option<HashMap<K, V, H>> {
         None

@@ -11,19 +11,18 @@ use Rattle.miniserde_model.proofs.Utf8.{json_utf8}
 use Rattle.miniserde_model.proofs.Written.{written}
 use Rattle.miniserde_canonical.specs.CanonicalToken.{tokens}
 use Rattle.miniserde_canonical.specs.declared.draft.Draft.{Draft}
-use Rattle.miniserde_canonical.specs.private.States.{State, TokenSteps, start}
+use Rattle.miniserde_canonical.specs.private.States.{State, TokenSteps, initial_state}
 use Rattle.miniserde_canonical.specs.private.Drafts.{Holding}
-use Rattle.miniserde_canonical.specs.private.SplicedTexts.{Holds}
+use Rattle.miniserde_canonical.specs.private.SplicedTexts.{FilledText}
 use Rattle.miniserde_canonical.proofs.TreeRuns.{steps_make}
 use Rattle.miniserde_canonical.proofs.DraftSteps.{holds_whole}
 use Rattle.miniserde_canonical.proofs.canonicalize.canonicalize.Goals as goal
 
-held : (d : Draft) (t : Tree) (s : State) → TokenSteps (tokens t) start s → Holding d d.out.bytes.items s
-    → Holds d.groups.bytes.items d.groups.splices.items 0 d.out.bytes.items d.out.splices.items (compact (norm t))
+held : (d : Draft) (t : Tree) (s : State) → TokenSteps (tokens t) initial_state s → Holding d d.out.bytes.items s
+    → FilledText d.groups d.out (compact (norm t))
 held d t s r h =
     let m = steps_make t s r in
-    subst (λ z. Holds d.groups.bytes.items d.groups.splices.items 0 d.out.bytes.items d.out.splices.items z) m.0
-    (holds_whole d s h m.1)
+    subst (FilledText d.groups d.out) m.0 (holds_whole d s h m.1)
 
 pub returns-in_err-draft-clause-invalid : goal.returns-in_err-draft-clause-invalid
 returns-in_err-draft-clause-invalid c = λ e.

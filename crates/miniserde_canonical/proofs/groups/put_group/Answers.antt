@@ -4,11 +4,11 @@ use Rattle.miniserde_canonical.proofs.FillSplices.{group_begins, group_goes, gro
 use Rattle.miniserde_canonical.proofs.groups.put_group.Goals as goal
 
 pub loop-span-init : goal.loop-span-init
-loop-span-init c = group_begins _ _ c.args.group _ c.clear.ensures.items c.in_ok-push.ensures.items
+loop-span-init c = group_begins c.args.groups.now c.args.group _ c.clear.ensures.items c.in_ok-push.ensures.items
 
 pub loop-span-preserved : goal.loop-span-preserved
 loop-span-preserved c =
-    group_goes _ _ c.args.group c.in-Some.span _
+    group_goes c.args.groups.now c.args.group c.in-Some.span _
     (record { out = c.loop-span.out.items; later = c.loop-span.later.items })
     (record { out = c.loop-span.out.items; later = c.pop.new.self.items })
     (record { out = c.put_span.new.out.items; later = c.put_span.new.later.items })

@@ -5,8 +5,8 @@ use Rattle.miniserde_canonical.specs.private.WaitingSpans.{SpanHolds, SpansHold,
 use Rattle.miniserde_canonical.proofs.groups.put_group.Given as goal
 
 abbrev pub invariant-loop-span : goal.invariant-loop-span
-invariant-loop-span l = (x : List ℕ) → SpanHolds l.groups.bytes.items l.groups.splices.items l.fn.group x
-    → (z : List ℕ) × SpansHold l.groups.bytes.items l.groups.splices.items l.later.items z
+invariant-loop-span l = (x : List ℕ) → SpanHolds l.groups l.fn.group x
+    → (z : List ℕ) × SpansHold l.groups l.later.items z
     × (l.out.items ++ z ≡ l.fn.out.items ++ x)
 
 abbrev pub decreases-loop-span : goal.decreases-loop-span

@@ -7,7 +7,7 @@ use Rattle.miniserde_canonical.proofs.groups.put_span.Goals.{else-next-span-via-
 
 pub returns-in_ok-push-2-clause-ok : goal.returns-in_ok-push-2-clause-ok
 returns-in_ok-push-2-clause-ok c =
-    span_splice c.args.later.now.items
+    span_splice c.args.groups.now c.args.later.now.items
     (first_in {p = c.args.span} c.as_slice-splices.ensures.value
     (record {
       inside = c.if-next-span.true;
@@ -29,7 +29,7 @@ returns-in_ok-push-2-clause-less c =
 pub returns-in_ok-extend_from_slice-2-clause-ok : goal.returns-in_ok-extend_from_slice-2-clause-ok
 returns-in_ok-extend_from_slice-2-clause-ok c =
     let within = subst (λ z. c.args.span.from.splices < length z) (sym c.as_slice-splices.ensures.value) in
-    span_plain c.args.groups.now.splices.items c.args.span c.args.later.now.items
+    span_plain c.args.groups.now c.args.span c.args.later.now.items
     (λ l h. elim c.else-next-span.branch [
       | else-next-span-via-then-next-span+else-next-splices w ↦ absurd (omega (arith, within h, w.if-next-splices.false))
       | else-next-span-via-else-next-span w ↦ absurd (omega (arith, l, w.if-next-span.false))

@@ -11,17 +11,17 @@ use Rattle.miniserde_canonical.proofs.InputRuns.{run_length}
 use Rattle.miniserde_canonical.proofs.draft.Draft.add_member.Goals as goal
 
 pub returns : goal.returns
-returns c = λ rest part rest' before s s' t h e f g p i a.
+returns c = λ rest part rest' before s s' t h k p i a.
     let n = text_of c.args.text c.args.scratch.now in
     let point : c.in_ok-ok_or.field-0 ≡ length c.args.self.now.out.bytes.items + c.saturating_sub-run.result = search rules in
     let splices : c.len-2.result ≡ length c.args.self.now.out.splices.items = search rules in
     let here : c.in_ok-ok_or.field-0 ≡ length (before ++ comma_before s.first) =
-    run_length c.args.span.at _ t f
+    run_length c.args.span.at _ t k.at
     (point ∙ ap (λ z. length c.args.self.now.out.bytes.items + z) c.saturating_sub-run.ensures) in
     record {
       bytes = (before ++ comma_before s.first) ++ (string_text n ++ 58 ∷ []);
       wrote = c.in_ok-spell.ensures.wrote rest part rest' (before ++ comma_before s.first)
-          (record { front = t.front; run = t.run; input = t.input; left = t.left; text = t.text }) e f g p;
+          (record { front = t.front; run = t.run; input = t.input; left = t.left; text = t.text }) k p;
       holding = keep_holding c.in_ok-spell.ensures.only_text
           (holding_begun {d = c.args.self.now} c.new-2.result n
           (record { splices = refl; groups = refl; inner = refl; distinct = refl })

@@ -1,4 +1,4 @@
--- A draft without bytes, splices and members represents the state `start` (`draft_starts`).
+-- A draft without bytes, splices and members represents the state `initial_state` (`draft_starts`).
 use Rattle.std.proofs.Common.{refl}
 use Rattle.miniserde_canonical.proofs.DraftSteps.{draft_starts}
 use Rattle.miniserde_canonical.proofs.draft.Draft.new.Goals as goal

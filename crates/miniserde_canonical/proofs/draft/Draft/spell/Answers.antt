@@ -7,13 +7,13 @@ use Rattle.miniserde_canonical.proofs.InputRuns.{rewound}
 use Rattle.miniserde_canonical.proofs.draft.Draft.spell.Goals as goal
 
 pub returns-clause-wrote : goal.returns-clause-wrote
-returns-clause-wrote c = λ rest part rest' bs t e f g p.
-    let q = c.in_ok-flush.ensures.wrote rest bs t f in
+returns-clause-wrote c = λ rest part rest' bs t k p.
+    let q = c.in_ok-flush.ensures.wrote rest bs t k.at in
     let n = string_text (text_of c.args.text c.args.scratch.now) in
-    rewound part q.0 e
+    rewound part q.0 k.text
     (record {
       input = refl;
-      left = g;
+      left = k.end;
       text_is = c.in_ok-push.ensures.items ∙ ap (λ z. z ++ 58 ∷ []) (c.in_ok-put_string.ensures ∙ ap (λ z. z ++ n) q.1)
           ∙ append_assoc bs n (58 ∷ []);
     })

@@ -7,7 +7,7 @@ use Rattle.miniserde_text.specs.Lexer.{event_of_token, text_of, SpelledText, Spe
 use Rattle.miniserde_text.specs.private.Escape.{escapes}
 use Rattle.miniserde_text.proofs.EscapeRule.{quoted_escapes}
 use Rattle.miniserde_canonical.specs.private.EventTokens.{first_token}
-use Rattle.miniserde_canonical.specs.private.Plain.{SpellsToken}
+use Rattle.miniserde_canonical.specs.private.Plain.{PartIsToken}
 use Rattle.miniserde_canonical.specs.private.States.{TokenStep, AddsBytes}
 use Rattle.miniserde_canonical.specs.private.Drafts.{Wrote}
 use Rattle.miniserde_canonical.proofs.DraftSteps.{holding_opened, rewritten, stays}
@@ -15,18 +15,18 @@ use Rattle.miniserde_canonical.proofs.InputRuns.{wrote_on, as_negative, as_it_is
 use Rattle.miniserde_canonical.proofs.draft.Draft.token.Goals as goal
 
 pub returns-then-n-ne0-clause-takes : goal.returns-then-n-ne0-clause-takes
-returns-then-n-ne0-clause-takes c = λ rest part rest' x s s' r e f g w p h.
-    let q = subst (λ z. SpellsToken z x part) c.in-Negative.is p in
+returns-then-n-ne0-clause-takes c = λ rest part rest' x s s' r takes w p h.
+    let q = subst (λ z. PartIsToken z x part) c.in-Negative.is p in
     let a = subst (λ z. TokenStep (first_token (event_of_token z x)) s s') c.in-Negative.is h in
     stays part rest'
-    (subst (λ z. AddsBytes z s s') (sym (as_negative c.in-Negative.n part q.0 (search rules))) a.0) r e
+    (subst (λ z. AddsBytes z s s') (sym (as_negative c.in-Negative.n part q.0 (search rules))) a.0) r takes.text
 
 pub returns-in_ok-push-in-Negative-clause-takes : goal.returns-in_ok-push-in-Negative-clause-takes
-returns-in_ok-push-in-Negative-clause-takes c = λ rest part rest' x s s' r e f g w p h.
+returns-in_ok-push-in-Negative-clause-takes c = λ rest part rest' x s s' r takes w p h.
     let zero : c.in-Negative.n ≡ pos 0 = search rules in
     let a = subst (λ z. TokenStep (first_token (event_of_token z x)) s s') c.in-Negative.is h in
     let k = c.in_ok-flush-in-Negative.ensures in
-    let q = k.wrote rest r.bytes r.wrote f in
+    let q = k.wrote rest r.bytes r.wrote takes.at in
     let same = k.only_text in
     rewritten part (48 ∷ []) (subst (λ z. AddsBytes z s s') (ap (λ z. compact (norm_neg z)) zero ∙ decimal_zero) a.0) r q.0
     (record {
@@ -37,15 +37,15 @@ returns-in_ok-push-in-Negative-clause-takes c = λ rest part rest' x s s' r e f 
       opened = same.opened;
       distinct = same.distinct;
     })
-    e
+    takes.text
     (record {
       input = refl;
-      left = g;
+      left = takes.end;
       text_is = c.in_ok-push-in-Negative.ensures.items ∙ ap (λ z. z ++ 48 ∷ []) q.1;
     })
 
 pub returns-in_ok-put_quoted-in-Str-clause-takes : goal.returns-in_ok-put_quoted-in-Str-clause-takes
-returns-in_ok-put_quoted-in-Str-clause-takes c = λ rest part rest' x s s' r e f g w p h.
+returns-in_ok-put_quoted-in-Str-clause-takes c = λ rest part rest' x s s' r takes w p h.
     let a = subst (λ z. TokenStep (first_token (event_of_token z x)) s s') c.in-Str.is h in
     let k = c.in_ok-flush-in-Str.ensures in
     let inside : c.args.escaped.now ≡ escapes x =
@@ -53,7 +53,7 @@ returns-in_ok-put_quoted-in-Str-clause-takes c = λ rest part rest' x s s' r e f
     (subst (λ z. SpelledToken escapes z c.args.escaped.now x) c.in-Str.is w) in
     let text : 34 ∷ (c.args.escaped.now ++ 34 ∷ []) ≡ string_text x =
     ap (λ z. 34 ∷ (z ++ 34 ∷ [])) inside ∙ sym (quoted_escapes x) in
-    let q = k.wrote rest r.bytes r.wrote f in
+    let q = k.wrote rest r.bytes r.wrote takes.at in
     let same = k.only_text in
     rewritten part (string_text x) (subst (λ z. AddsBytes (string_text (text_of z x)) s s') c.in-Scratch.is a.0) r q.0
     (record {
@@ -64,35 +64,35 @@ returns-in_ok-put_quoted-in-Str-clause-takes c = λ rest part rest' x s s' r e f
       opened = same.opened;
       distinct = same.distinct;
     })
-    e
+    takes.text
     (record {
       input = refl;
-      left = g;
+      left = takes.end;
       text_is = c.in_ok-put_quoted-in-Str.ensures ∙ ap (λ z. c.flush-in-Scratch.new.self.out.bytes.items ++ z) text
           ∙ ap (λ z. z ++ string_text x) q.1;
     })
 
 pub returns-in_default-text-clause-takes : goal.returns-in_default-text-clause-takes
-returns-in_default-text-clause-takes c = λ rest part rest' x s s' r e f g w p h.
-    let q = subst (λ z. SpellsToken z x part) c.in-Str.is p in
+returns-in_default-text-clause-takes c = λ rest part rest' x s s' r takes w p h.
+    let q = subst (λ z. PartIsToken z x part) c.in-Str.is p in
     let a = subst (λ z. TokenStep (first_token (event_of_token z x)) s s') c.in-Str.is h in
     stays part rest'
-    (string_stands c.in-Str.text x part s s' c.in_default-text.not-Scratch q.1 a.0) r e
+    (string_stands c.in-Str.text x part s s' c.in_default-text.not-Scratch q.1 a.0) r takes.text
 
 pub returns-in-SeqStart-clause-takes : goal.returns-in-SeqStart-clause-takes
-returns-in-SeqStart-clause-takes c = λ rest part rest' x s s' r e f g w p h.
-    let q = subst (λ z. SpellsToken z x part) c.in-SeqStart.is p in
+returns-in-SeqStart-clause-takes c = λ rest part rest' x s s' r takes w p h.
+    let q = subst (λ z. PartIsToken z x part) c.in-SeqStart.is p in
     let a = subst (λ z. TokenStep (first_token (event_of_token z x)) s s') c.in-SeqStart.is h in
-    stays part rest' (subst (λ z. AddsBytes z s s') (sym q.0) a.0) r e
+    stays part rest' (subst (λ z. AddsBytes z s s') (sym q.0) a.0) r takes.text
 
 pub returns-in-MapStart-clause-takes : goal.returns-in-MapStart-clause-takes
-returns-in-MapStart-clause-takes c = λ rest part rest' x s s' r e f g w p h.
-    let q = subst (λ z. SpellsToken z x part) c.in-MapStart.is p in
+returns-in-MapStart-clause-takes c = λ rest part rest' x s s' r takes w p h.
+    let q = subst (λ z. PartIsToken z x part) c.in-MapStart.is p in
     let o = subst (λ z. TokenStep (first_token (event_of_token z x)) s s') c.in-MapStart.is h in
     let d = c.args.self.now in
     let number : c.len.result ≡ length d.members.items = search rules in
     let w : Wrote d rest' (r.bytes ++ 123 ∷ []) =
-    subst (λ z. Wrote d rest' (r.bytes ++ z)) q.0 (wrote_on part rest' r.wrote e) in
+    subst (λ z. Wrote d rest' (r.bytes ++ z)) q.0 (wrote_on part rest' r.wrote takes.text) in
     record {
       bytes = r.bytes ++ 123 ∷ [];
       wrote = record { front = w.front; run = w.run; input = w.input; left = w.left; text = w.text };
@@ -101,7 +101,7 @@ returns-in-MapStart-clause-takes c = λ rest part rest' x s s' r e f g w p h.
     }
 
 pub returns-in_default-clause-takes : goal.returns-in_default-clause-takes
-returns-in_default-clause-takes c = λ rest part rest' x s s' r e f g w p h.
+returns-in_default-clause-takes c = λ rest part rest' x s s' r takes w p h.
     let n = c.in_default in
     stays part rest'
-    (as_it_is c.args.token x part s s' p n.not-Negative n.not-Str n.not-MapStart h) r e
+    (as_it_is c.args.token x part s s' p n.not-Negative n.not-Str n.not-MapStart h) r takes.text

@@ -127,10 +127,10 @@ returns-in_ok-add_member-in-Map-kind-clause-reads c =
     → Holding d2 before s → s.first ≡ c.args.first → TokenStep (name (text_of text z)) s s'
     → Represents c.add_member.new.self new s') c.as_str.ensures.value
     (λ before s s' t h f a. c.in_ok-add_member-in-Map-kind.ensures at q.part new before s s' t h
-    (at_once at new q b2.stops) c.in_ok-at-in-Map-kind.ensures.at c.left-end.ensures
+    (record { text = at_once at new q b2.stops; at = c.in_ok-at-in-Map-kind.ensures.at; end = c.left-end.ensures })
     (name_spelled text x at new q c.in_ok-text-in-Map-kind.ensures.text) f a) in (
       name n ∷ [],
-      reads_key _ _ _ n _ k c.args.first c.requires.inside c.in-Map-kind.is
+      reads_key n k c.args.first c.requires.inside c.in-Map-kind.is
           (follows_behind k c.args.first false old mid behind b p) (names_behind behind at n new b2 q),
       takes_name {d = d} {d1 = d1} {d2 = d2} c.args.first n behind
           (record { wrote = c.in_ok-before.ensures.wrote; only_text = c.in_ok-before.ensures.only_text })

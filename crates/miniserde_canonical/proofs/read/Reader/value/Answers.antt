@@ -41,7 +41,7 @@ returns-clause-reads c =
     let full = starts_behind old mid e new b s in
     let takes : (u u' : State) → Represents d1 mid u → TokenStep (first_token e) u u' → Represents c.token.new.self new u' =
     λ u u' r a. c.in_ok-opened.ensures.takes mid s.0.part new x u u' r
-    (at_once mid new s.0 b.stops) c.in_ok-at.ensures.at c.left-end.ensures
+    (record { text = at_once mid new s.0 b.stops; at = c.in_ok-at.ensures.at; end = c.left-end.ensures })
     (subst (λ z. SpelledToken escapes event z x) (sym v) q.4) (spelled event x mid new s c.in_ok-event.ensures.text) a in (
       first_token e ∷ [],
       reads_start _ _ _ e c.is_some.result _ full o st,
