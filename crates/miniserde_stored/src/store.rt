@@ -49,7 +49,6 @@ pub fn canonical_of<T: Serialize>(alloc: Global, value: &T) -> Result<String>
         → norm u ≡ norm (T.tree value.now)) }
     ensures memory { OnErr result (IsErrOf result Error.Memory) }
 {
-    json_in_range();
     canonical_texts_equal();
     let (text, is_normal) = to_string_and_normal(alloc, value)?;
     if is_normal {
