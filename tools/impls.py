@@ -333,9 +333,16 @@ def reading_text(it):
 """
 
 
+def rise(names):
+    """Whether the names strictly rise in byte order, so that an object of members in their order may be canonical."""
+    names = [name.encode() for name in names]
+    return all(one < other for one, other in zip(names, names[1:]))
+
+
 def writing_text(it):
     """The impls that write a struct, and say which of its values are valid."""
     name, fields = typed(it), typed(it, "Fields")
+    call = "write_members_in_order" if rise(part.written for part in it.parts) else "write_members"
     tree = f"record_tree {of('Record', 'names', name)} {of('WrittenFields', 'trees', fields)} {of('Record', 'values', name)}"
     valid = f"λ v. {of('WrittenFields', 'valid', fields)} ({of('Record', 'values', name)} v)"
     return f"""
@@ -343,7 +350,7 @@ def writing_text(it):
 {wrapped("tree", tree)}
 
     fn begin(&self, w: &mut Writer) -> Result<()> {{
-        write_members(w, {const_of(it.name)}, &{lent_of(it.parts, "&self.")})
+        {call}(w, {const_of(it.name)}, &{lent_of(it.parts, "&self.")})
     }}
 }}
 

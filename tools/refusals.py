@@ -17,7 +17,7 @@ NAMED = (
     "Serialize Slot Slots Source Stable Step TextValue Transparent DataEnum UnitCase UnitEnum Variants Visitor WithDefault Writer WrittenCases WrittenFields "
     "aliased_round_trips checked_from_step checked_lossless checked_round_trips checked_stable enum_lossless enum_round_trips enum_stable fields_named read_checked read_enum read_leaf read_record read_tagged read_variant "
     "record_lossless record_round_trips record_stable tag_fits tagged_lossless tagged_round_trips tagged_stable take_four text_value_from_step text_value_round_trips transparent_round_trips variant_lossless "
-    "variant_round_trips variant_stable write_data write_fields write_members write_tagged write_tagged_fields write_text_value"
+    "variant_round_trips variant_stable write_data write_fields write_members write_members_in_order write_tagged write_tagged_fields write_text_value"
 )
 # Those of the laws, by their crate: a crate over `miniserde_core` lists it too.
 OF_LAWS = {

@@ -9,7 +9,7 @@ use miniserde::derived::{
     Deserialize, Error, Event, Field, FourLent, FourParts, FourSlot, FromJson, Global, NoField,
     NoSlot, Parts, PlacedRecord, Ranged, Record, RecordPlace, Result, RoundTrip, Serialize, Slot,
     Slots, Source, Stable, Step, Visitor, Writer, WrittenFields, read_record, record_round_trips,
-    record_stable, take_four, write_members,
+    record_stable, take_four, write_members, write_members_in_order,
 };
 
 /// A struct of two optional fields.
@@ -67,7 +67,7 @@ impl Serialize for Nested {
         ⟦<Nested as Record>⟧.values };
 
     fn begin(&self, w: &mut Writer) -> Result<()> {
-        write_members(w, NESTED_NAMES, &Parts(&self.y, Parts(&self.z, ())))
+        write_members_in_order(w, NESTED_NAMES, &Parts(&self.y, Parts(&self.z, ())))
     }
 }
 

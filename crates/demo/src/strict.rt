@@ -8,7 +8,7 @@ use miniserde::derived::{
     Deserialize, Error, Event, FromJson, Global, NoField, NoSlot, OnceField, OnceSlot, Parts,
     PlacedRecord, Ranged, Record, RecordPlace, Result, RoundTrip, Serialize, Slots, Source, Stable,
     Step, Visitor, Writer, WrittenFields, read_record, record_round_trips, record_stable,
-    write_members,
+    write_members_in_order,
 };
 
 /// As `Demo`, whose `message` is the field `text`, and invalid if `code` or `message` is duplicated among its members. Other names may be.
@@ -64,7 +64,7 @@ impl Serialize for StrictDemo {
     ghost tree = { record_tree ⟦<StrictDemo as Record>⟧.names ⟦<StrictDemoFields as WrittenFields>⟧.trees ⟦<StrictDemo as Record>⟧.values };
 
     fn begin(&self, w: &mut Writer) -> Result<()> {
-        write_members(
+        write_members_in_order(
             w,
             STRICT_DEMO_NAMES,
             &Parts(&self.code, Parts(&self.text, ())),

@@ -7,7 +7,8 @@ ghost use Rattle.std.specs.Prelude.{refl};
 use miniserde::derived::{
     Deserialize, Error, Event, Field, FromJson, Global, NoField, NoSlot, Parts, PlacedRecord,
     Ranged, Record, RecordPlace, Result, RoundTrip, Serialize, Slot, Slots, Source, Stable, Step,
-    Visitor, Writer, WrittenFields, read_record, record_round_trips, record_stable, write_members,
+    Visitor, Writer, WrittenFields, read_record, record_round_trips, record_stable,
+    write_members_in_order,
 };
 
 /// A struct of two fields.
@@ -63,7 +64,7 @@ impl Serialize for Demo {
     ghost tree = { record_tree ⟦<Demo as Record>⟧.names ⟦<DemoFields as WrittenFields>⟧.trees ⟦<Demo as Record>⟧.values };
 
     fn begin(&self, w: &mut Writer) -> Result<()> {
-        write_members(w, DEMO_NAMES, &Parts(&self.code, Parts(&self.message, ())))
+        write_members_in_order(w, DEMO_NAMES, &Parts(&self.code, Parts(&self.message, ())))
     }
 }
 

@@ -10,7 +10,7 @@ use miniserde::derived::{
     NeverNull, NoCase, NoFields, NoSlot, OneOf, Parts, Ranged, Record, Result, RoundTrip,
     Serialize, Slot, Slots, Source, Stable, Writer, WrittenCases, WrittenFields, fields_named,
     read_record, read_tagged, record_lossless, record_round_trips, record_stable, tag_fits,
-    tagged_lossless, tagged_round_trips, tagged_stable, write_members, write_tagged,
+    tagged_lossless, tagged_round_trips, tagged_stable, write_members_in_order, write_tagged,
     write_tagged_fields,
 };
 
@@ -67,7 +67,7 @@ impl Serialize for Say {
     ghost tree = { record_tree ⟦<Say as Record>⟧.names ⟦<SayFields as WrittenFields>⟧.trees ⟦<Say as Record>⟧.values };
 
     fn begin(&self, w: &mut Writer) -> Result<()> {
-        write_members(w, SAY_NAMES, &Parts(&self.text, Parts(&self.to, ())))
+        write_members_in_order(w, SAY_NAMES, &Parts(&self.text, Parts(&self.to, ())))
     }
 }
 
@@ -171,7 +171,7 @@ impl Serialize for ActionMove {
     ghost tree = { record_tree ⟦<ActionMove as Record>⟧.names ⟦<ActionMoveFields as WrittenFields>⟧.trees ⟦<ActionMove as Record>⟧.values };
 
     fn begin(&self, w: &mut Writer) -> Result<()> {
-        write_members(w, ACTION_MOVE_NAMES, &Parts(&self.x, Parts(&self.y, ())))
+        write_members_in_order(w, ACTION_MOVE_NAMES, &Parts(&self.x, Parts(&self.y, ())))
     }
 }
 

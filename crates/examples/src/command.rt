@@ -10,7 +10,7 @@ use miniserde::derived::{
     OneOf, Parts, Ranged, Record, Result, RoundTrip, Serialize, Slot, Slots, Source, Stable,
     UnitCase, Writer, WrittenCases, WrittenFields, enum_lossless, enum_round_trips, enum_stable,
     read_enum, read_record, record_lossless, record_round_trips, record_stable, write_data,
-    write_fields, write_members,
+    write_fields, write_members_in_order,
 };
 
 /// The fields of `Command::Move`.
@@ -66,7 +66,7 @@ impl Serialize for CommandMove {
     ghost tree = { record_tree ⟦<CommandMove as Record>⟧.names ⟦<CommandMoveFields as WrittenFields>⟧.trees ⟦<CommandMove as Record>⟧.values };
 
     fn begin(&self, w: &mut Writer) -> Result<()> {
-        write_members(w, COMMAND_MOVE_NAMES, &Parts(&self.x, Parts(&self.y, ())))
+        write_members_in_order(w, COMMAND_MOVE_NAMES, &Parts(&self.x, Parts(&self.y, ())))
     }
 }
 

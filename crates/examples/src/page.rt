@@ -6,7 +6,7 @@ ghost use Rattle.std.specs.Prelude.{refl};
 use miniserde::derived::{
     Event, FromJson, Lossless, NeverNull, NoSlot, Parts, Ranged, Record, Result, RoundTrip,
     Serialize, Slot, Slots, Source, Stable, Writer, WrittenFields, read_record, record_lossless,
-    record_round_trips, record_stable, write_members,
+    record_round_trips, record_stable, write_members_in_order,
 };
 
 /// A page of a list, and the name of the next page.
@@ -64,7 +64,7 @@ impl<T: FromJson + Ranged + Serialize> Serialize for Page<T> {
         ⟦<Page<T> as Record>⟧.values };
 
     fn begin(&self, w: &mut Writer) -> Result<()> {
-        write_members(w, PAGE_NAMES, &Parts(&self.items, Parts(&self.next, ())))
+        write_members_in_order(w, PAGE_NAMES, &Parts(&self.items, Parts(&self.next, ())))
     }
 }
 

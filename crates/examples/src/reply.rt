@@ -11,7 +11,7 @@ use miniserde::derived::{
     NeverNull, NoCase, NoSlot, Once, OneOf, Parts, Ranged, Record, Result, RoundTrip, Serialize,
     Slot, Slots, Source, Stable, UnitCase, WithDefault, Writer, WrittenCases, WrittenFields,
     enum_lossless, enum_round_trips, enum_stable, read_enum, read_record, record_lossless,
-    record_round_trips, record_stable, write_data, write_fields, write_members,
+    record_round_trips, record_stable, write_data, write_fields, write_members_in_order,
 };
 
 /// The fields of `Reply::Failed`.
@@ -83,7 +83,7 @@ impl Serialize for ReplyFailed {
     ghost tree = { record_tree ⟦<ReplyFailed as Record>⟧.names ⟦<ReplyFailedFields as WrittenFields>⟧.trees ⟦<ReplyFailed as Record>⟧.values };
 
     fn begin(&self, w: &mut Writer) -> Result<()> {
-        write_members(
+        write_members_in_order(
             w,
             REPLY_FAILED_NAMES,
             &Parts(&self.code, Parts(&self.why, ())),

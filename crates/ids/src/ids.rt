@@ -11,8 +11,8 @@ use miniserde::derived::{
     Deserialize, Error, Event, FromJson, Global, Leaf, LeafPlace, Lossless, NeverNull, NoSlot,
     Parts, Ranged, Record, Result, RoundTrip, Serialize, Slot, Slots, Source, Stable, Step,
     TextValue, Visitor, Writer, WrittenFields, read_leaf, read_record, record_lossless,
-    record_round_trips, record_stable, text_value_from_step, text_value_round_trips, write_members,
-    write_text_value,
+    record_round_trips, record_stable, text_value_from_step, text_value_round_trips,
+    write_members_in_order, write_text_value,
 };
 use uuid::Uuid;
 
@@ -182,7 +182,7 @@ impl Serialize for Account {
         ⟦<Account as Record>⟧.values };
 
     fn begin(&self, w: &mut Writer) -> Result<()> {
-        write_members(
+        write_members_in_order(
             w,
             ACCOUNT_NAMES,
             &Parts(&self.id, Parts(&self.name, Parts(&self.parent, ()))),

@@ -14,7 +14,7 @@ pub use miniserde_record::record::{
     Aliased, Closed, Empty, FourLent, FourParts, FourSlot, Given, HasAliases, MarkedFour,
     MarkedSlot, Members, NoSlot, OmitSlot, Omitted, Once, OnceSlot, Parts, Plain, Record, Slot,
     Slots, UnitEnum, Variants, WithDefault, WrittenFields, read_record, read_variant, take_four,
-    write_members,
+    write_members, write_members_in_order,
 };
 pub use miniserde_ser::ser::{Fragment, Serialize, Writer, write_text_value};
 pub use miniserde_text::json::lex::Event;

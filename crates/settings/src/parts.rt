@@ -8,7 +8,7 @@ use miniserde::derived::{
     Deserialize, Error, Event, Field, FromJson, Global, Lossless, NeverNull, NoField, NoSlot,
     Parts, PlacedRecord, Plain, Ranged, Record, RecordPlace, Result, RoundTrip, Serialize, Slot,
     Slots, Source, Stable, Step, Visitor, Writer, WrittenFields, read_record, record_lossless,
-    record_round_trips, record_stable, write_members,
+    record_round_trips, record_stable, write_members_in_order,
 };
 use refused::{FieldByField, FieldPath, NamesOf, NoProbe, Probe, Probes, Way, fields_give};
 
@@ -65,7 +65,7 @@ impl Serialize for Host {
     ghost tree = { record_tree ⟦<Host as Record>⟧.names ⟦<HostFields as WrittenFields>⟧.trees ⟦<Host as Record>⟧.values };
 
     fn begin(&self, w: &mut Writer) -> Result<()> {
-        write_members(w, HOST_NAMES, &Parts(&self.host, Parts(&self.weight, ())))
+        write_members_in_order(w, HOST_NAMES, &Parts(&self.host, Parts(&self.weight, ())))
     }
 }
 
@@ -198,7 +198,7 @@ impl Serialize for Tls {
     ghost tree = { record_tree ⟦<Tls as Record>⟧.names ⟦<TlsFields as WrittenFields>⟧.trees ⟦<Tls as Record>⟧.values };
 
     fn begin(&self, w: &mut Writer) -> Result<()> {
-        write_members(w, TLS_NAMES, &Parts(&self.cert, Parts(&self.verify, ())))
+        write_members_in_order(w, TLS_NAMES, &Parts(&self.cert, Parts(&self.verify, ())))
     }
 }
 

@@ -9,7 +9,7 @@ use miniserde_core::derived::{
     BesideTag, DataCase, DataEnum, Empty, Event, FromJson, HasTag, Inside, InsideCases, MarkedSlot,
     Members, NoCase, NoFields, NoSlot, OneOf, Parts, Ranged, Record, Result, Serialize, Slot,
     Slots, Source, WithDefault, Writer, WrittenCases, WrittenFields, fields_named, read_record,
-    read_tagged, tag_fits, write_members, write_tagged, write_tagged_fields,
+    read_tagged, tag_fits, write_members_in_order, write_tagged, write_tagged_fields,
 };
 use miniserde_laws::{
     Lossless, NeverNull, RoundTrip, record_lossless, record_round_trips, tagged_lossless,
@@ -71,7 +71,7 @@ impl Serialize for Label {
         ⟦<Label as Record>⟧.values };
 
     fn begin(&self, w: &mut Writer) -> Result<()> {
-        write_members(w, LABEL_NAMES, &Parts(&self.text, ()))
+        write_members_in_order(w, LABEL_NAMES, &Parts(&self.text, ()))
     }
 }
 
@@ -173,7 +173,7 @@ impl Serialize for TaskWeighed {
     ghost tree = { record_tree ⟦<TaskWeighed as Record>⟧.names ⟦<TaskWeighedFields as WrittenFields>⟧.trees ⟦<TaskWeighed as Record>⟧.values };
 
     fn begin(&self, w: &mut Writer) -> Result<()> {
-        write_members(w, TASK_WEIGHED_NAMES, &Parts(&self.grams, ()))
+        write_members_in_order(w, TASK_WEIGHED_NAMES, &Parts(&self.grams, ()))
     }
 }
 
@@ -278,7 +278,7 @@ impl Serialize for TaskSealed {
     ghost tree = { record_tree ⟦<TaskSealed as Record>⟧.names ⟦<TaskSealedFields as WrittenFields>⟧.trees ⟦<TaskSealed as Record>⟧.values };
 
     fn begin(&self, w: &mut Writer) -> Result<()> {
-        write_members(w, TASK_SEALED_NAMES, &Parts(&self.twice, ()))
+        write_members_in_order(w, TASK_SEALED_NAMES, &Parts(&self.twice, ()))
     }
 }
 

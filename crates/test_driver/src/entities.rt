@@ -9,7 +9,7 @@ use miniserde::derived::{
     Cases, DataCase, DataEnum, Event, FromJson, NoCase, NoSlot, OneOf, Parts, Ranged, Record,
     Result, RoundTrip, Serialize, Slot, Slots, Source, Writer, WrittenCases, WrittenFields,
     enum_round_trips, read_enum, read_record, record_round_trips, write_data, write_fields,
-    write_members,
+    write_members, write_members_in_order,
 };
 
 /// A word by which a post is found, and where it begins and ends in the text.
@@ -144,7 +144,7 @@ impl Serialize for Entities {
     ghost tree = { record_tree ⟦<Entities as Record>⟧.names ⟦<EntitiesFields as WrittenFields>⟧.trees ⟦<Entities as Record>⟧.values };
 
     fn begin(&self, w: &mut Writer) -> Result<()> {
-        write_members(
+        write_members_in_order(
             w,
             ENTITIES_NAMES,
             &Parts(&self.hashtags, Parts(&self.urls, ())),

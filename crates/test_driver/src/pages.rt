@@ -6,7 +6,7 @@ ghost use Rattle.std.specs.Prelude.{refl};
 use miniserde::derived::{
     Event, FourLent, FourParts, FourSlot, FromJson, NoSlot, Parts, Ranged, Record, Result,
     RoundTrip, Serialize, Slot, Slots, Source, Writer, WrittenFields, read_record,
-    record_round_trips, take_four, write_members,
+    record_round_trips, take_four, write_members, write_members_in_order,
 };
 
 /// Where something stands.
@@ -63,7 +63,7 @@ impl Serialize for Position {
     ghost tree = { record_tree ⟦<Position as Record>⟧.names ⟦<PositionFields as WrittenFields>⟧.trees ⟦<Position as Record>⟧.values };
 
     fn begin(&self, w: &mut Writer) -> Result<()> {
-        write_members(w, POSITION_NAMES, &Parts(&self.x, Parts(&self.y, ())))
+        write_members_in_order(w, POSITION_NAMES, &Parts(&self.x, Parts(&self.y, ())))
     }
 }
 

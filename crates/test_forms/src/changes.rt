@@ -14,8 +14,8 @@ use miniserde::derived::{
     InsideCases, Lossless, Members, NeverNull, NoCase, NoFields, NoSlot, OmitSlot, Omitted, OneOf,
     Parts, Plain, Ranged, Record, Result, RoundTrip, Serialize, Slot, Slots, Source, Writer,
     WrittenCases, WrittenFields, aliased_round_trips, fields_named, read_record, read_tagged,
-    record_lossless, tag_fits, tagged_lossless, tagged_round_trips, write_members, write_tagged,
-    write_tagged_fields,
+    record_lossless, tag_fits, tagged_lossless, tagged_round_trips, write_members_in_order,
+    write_tagged, write_tagged_fields,
 };
 
 /// The fields of `Change::Mark`.
@@ -86,7 +86,7 @@ impl Serialize for ChangeMark {
     ghost tree = { record_tree ⟦<ChangeMark as Record>⟧.names ⟦<ChangeMarkFields as WrittenFields>⟧.trees ⟦<ChangeMark as Record>⟧.values };
 
     fn begin(&self, w: &mut Writer) -> Result<()> {
-        write_members(
+        write_members_in_order(
             w,
             CHANGE_MARK_NAMES,
             &Parts(&self.at, Parts(Omitted(&self.note), ())),

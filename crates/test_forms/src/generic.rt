@@ -9,7 +9,7 @@ use miniserde::derived::{
     Lossless, MarkedFour, MarkedSlot, Members, NeverNull, NoSlot, OmitSlot, Omitted, OnceSlot,
     Parts, Plain, Ranged, Record, Result, RoundTrip, Serialize, Slot, Slots, Source, Stable,
     WithDefault, Writer, WrittenFields, fields_named, read_record, record_lossless,
-    record_round_trips, record_stable, take_four, write_members,
+    record_round_trips, record_stable, take_four, write_members, write_members_in_order,
 };
 use std::collections::{BTreeMap, VecDeque};
 
@@ -66,7 +66,7 @@ impl<A: FromJson + Ranged + Serialize, B: FromJson + Ranged + Serialize> Seriali
     ghost tree = { record_tree ⟦<Both<A, B> as Record>⟧.names ⟦<BothFields<A, B> as WrittenFields>⟧.trees ⟦<Both<A, B> as Record>⟧.values };
 
     fn begin(&self, w: &mut Writer) -> Result<()> {
-        write_members(w, BOTH_NAMES, &Parts(&self.one, Parts(&self.two, ())))
+        write_members_in_order(w, BOTH_NAMES, &Parts(&self.one, Parts(&self.two, ())))
     }
 }
 

@@ -10,7 +10,8 @@ use miniserde::derived::{
     Cases, DataCase, DataEnum, Event, Fragment, FromJson, Lossless, NeverNull, NoCase, NoSlot,
     OmitSlot, Omitted, OneOf, Parts, Plain, Ranged, Record, Result, RoundTrip, Serialize, Slot,
     Slots, Source, UnitCase, Writer, WrittenCases, WrittenFields, enum_round_trips, read_enum,
-    read_record, record_lossless, record_round_trips, write_data, write_fields, write_members,
+    read_record, record_lossless, record_round_trips, write_data, write_fields,
+    write_members_in_order,
 };
 
 /// A page of a list.
@@ -69,7 +70,7 @@ impl<T: FromJson + Ranged + Serialize> Serialize for Page<T> {
         ⟦<Page<T> as Record>⟧.values };
 
     fn begin(&self, w: &mut Writer) -> Result<()> {
-        write_members(
+        write_members_in_order(
             w,
             PAGE_NAMES,
             &Parts(
@@ -164,7 +165,7 @@ impl<T: FromJson + Ranged + Serialize> Serialize for EntryLogEntry<T> {
     ghost tree = { record_tree ⟦<EntryLogEntry<T> as Record>⟧.names ⟦<EntryLogEntryFields<T> as WrittenFields>⟧.trees ⟦<EntryLogEntry<T> as Record>⟧.values };
 
     fn begin(&self, w: &mut Writer) -> Result<()> {
-        write_members(
+        write_members_in_order(
             w,
             ENTRY_LOG_ENTRY_NAMES,
             &Parts(

@@ -6,7 +6,7 @@ ghost use Rattle.std.specs.Prelude.{refl};
 use miniserde::derived::{
     Event, FromJson, Lossless, NeverNull, NoSlot, Parts, Ranged, Record, Result, RoundTrip,
     Serialize, Slot, Slots, Source, Writer, WrittenFields, read_record, record_lossless,
-    record_round_trips, write_members,
+    record_round_trips, write_members_in_order,
 };
 
 /// Both ends of a span.
@@ -64,7 +64,7 @@ impl<T: FromJson + Ranged + Serialize> Serialize for Ends<T> {
         ⟦<Ends<T> as Record>⟧.values };
 
     fn begin(&self, w: &mut Writer) -> Result<()> {
-        write_members(w, ENDS_NAMES, &Parts(&self.from, Parts(&self.to, ())))
+        write_members_in_order(w, ENDS_NAMES, &Parts(&self.from, Parts(&self.to, ())))
     }
 }
 
