@@ -53,4 +53,5 @@ pub member_put : {name : String Global} (old new : OpenObject) (v : Value) → o
     → with_open_object new h ≡ with_tree (content_of v) (with_open_object old h)
 member_put old new v before after e h =
     ap₂ (λ (ms : Members) (k : Option (List ℕ)). in_members ms k h) e (ap (option_map string_bytes) after)
-    ∙ ap (λ (k : Option (String Global)). with_tree (content_of v) (in_members (made_members old) (option_map string_bytes k) h)) (sym before)
+    ∙ ap (λ (k : Option (String Global)). with_tree (content_of v) (in_members (made_members old) (option_map string_bytes k) h))
+    (sym before)

@@ -12,7 +12,8 @@ use Rattle.miniserde_value.specs.declared.json.builder.OpenContainer.TheVariants
 use Rattle.miniserde_model.specs.declared.kind.Kind.TheVariants as kind
 use Rattle.miniserde_value.specs.Hole.{Hole, in_list, with_tree, complete_tree}
 use Rattle.miniserde_value.specs.Values.{content_of}
-use Rattle.miniserde_value.specs.Containers.{with_open_object, outer_objects, hole_of, innermost_kind, pending, next_name, first_next_name, Fits}
+use Rattle.miniserde_value.specs.Containers.{with_open_object, outer_objects, hole_of, innermost_kind, pending, next_name}
+use Rattle.miniserde_value.specs.Containers.{first_next_name, Fits}
 use Rattle.miniserde_value.proofs.Lasts.{reverse_added, reverse_last, reverse_set, reverse_ends}
 
 -- marks that fit still fit where there are more values

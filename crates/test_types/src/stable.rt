@@ -7,6 +7,8 @@ use test_tables::{
     Wrong, expect_canonical_of, expect_one_value, expect_refused, expect_two_values,
 };
 
+const CHARS: &str = r#"{"é":"A","z":"enum"} => {"z":"enum","é":"A"}"#;
+
 const CANONICAL: &str = r#"{"b":[1, -0],"a":[]} => {"a":[],"b":[1,0]}
 {}  => {}"#;
 
@@ -31,10 +33,7 @@ fn scalars_and_containers_are_stable(rt: HostRuntime) -> std::result::Result<(),
         r#"{"b":-0, "a":1, "b":2} => {"a":1,"b":2}
 {"\u0062":1,"a":2,"b":-0} => {"a":2,"b":0}"#,
     )?;
-    expect_one_value::<BTreeMap<char, Tag>>(
-        alloc,
-        r#"{"é":"A","z":"enum"} => {"z":"enum","é":"A"}"#,
-    )?;
+    expect_one_value::<BTreeMap<char, Tag>>(alloc, CHARS)?;
     expect_one_value::<BTreeMap<bool, u8>>(
         alloc,
         r#"{"true":1,"false":2} => {"false":2,"true":1}"#,

@@ -119,11 +119,13 @@ mutual
   once_events h (list ts) rest =
       ap (outcome true false (in_list [] h)) (append_assoc (child_events ts) (finish ∷ []) rest)
       ∙ once_children ts [] h (finish ∷ rest)
-      ∙ ap (λ z. if_so (names_distinct_in_children ts) (outcome true false (with_tree (list z) h) rest)) (trees_listed (retained_children ts))
+      ∙ ap (λ z. if_so (names_distinct_in_children ts) (outcome true false (with_tree (list z) h) rest))
+      (trees_listed (retained_children ts))
   once_events h (members ms) rest =
       ap (outcome true false (in_members no_members None h)) (append_assoc (member_events ms) (finish ∷ []) rest)
       ∙ once_members ms no_members h (finish ∷ rest)
-      ∙ ap₂ (λ b z. if_so b (outcome true false (with_tree (members z) h) rest)) (all_fresh (names_distinct_in_members ms) ms) (puts_retained ms)
+      ∙ ap₂ (λ b z. if_so b (outcome true false (with_tree (members z) h) rest))
+      (all_fresh (names_distinct_in_members ms) ms) (puts_retained ms)
 
   pub once_children : (ts : Trees) (us : List Tree) (h : Hole) (rest : List Step)
       → outcome true false (in_list us h) (child_events ts ++ rest) ≡ if_so (names_distinct_in_children ts)

@@ -1,5 +1,6 @@
 -- A turn writes one member: `compact_members_step` gives the text with it, and `MembersInRange_step` says that it is
--- in range. At the end the iterator has yielded all entries (`iter_end`). The text that `key` writes is `K.text` of the key that the iterator yields.
+-- in range. The text that `key` writes is `K.text` of the key that the iterator yields. At the end the iterator has yielded
+-- all entries (`iter_end`).
 use Rattle.std.proofs.Common.{◌≡◌, ◌∷◌, [], rules, arith, ap, sym, subst, ◌∙◌, false, length-append, map}
 use Rattle.std.specs.Map.Iter.{deref_pair}
 use Rattle.std.proofs.lemmas.List.{map-append, length-map}
