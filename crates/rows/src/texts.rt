@@ -1,4 +1,5 @@
 //! The table of the rows: a body, which is a text, under each key, which is a text too.
+//! If no fault of the disk is known after a call (`HasCleanDisk`), none was known before it (`clean`).
 ghost use Rattle.std.specs.Prelude.{◌≡◌, ◌⊎◌, ◌↔◌, ◌∷◌, [], ℕ, List, map, false, Ok, Err, None, IsTrue, string_bytes};
 ghost use Rattle.std.specs.Prelude.{IfOk, IfErr, IfSome, OnOk, OnErr};
 ghost use Rattle.sqlite.specs.Held.{state};
@@ -231,7 +232,7 @@ pub fn get<S: Alter>(conn: &mut Connection<S>, key: &str) -> Result<Option<Strin
         ⊎ FailsToQuery get_text (Text key.now ∷ []) (state S.Store conn.old) (state S.Store conn.new) error) }
     ensures missing { result ≡ Err QueryReturnedNoRows → ⊥ }
 
-    // If it fails, the connection is as it was, or its transaction is rolled back, or it is shut.
+    // If the table is there and it fails, the connection is as it was, or its transaction is rolled back, or it is shut.
     ensures aborts { HasCleanDisk (state S.Store conn.new) → (state S.Store conn.old).now.schema ≡ entry_schema
         → OnErr result (Aborts (state S.Store conn.old) (state S.Store conn.new)) }
 
@@ -289,7 +290,7 @@ pub fn has<S: Alter>(conn: &mut Connection<S>, key: &str) -> Result<bool, Error>
     }
 }
 
-/// Returns all keys with their bodies, in the byte order of the keys. Returns the error of the database if it fails.
+/// Returns all keys with their bodies, in the byte order of the keys. Fails if the database or an allocation fails.
 pub fn all<S: Alter>(
     alloc: Global,
     conn: &mut Connection<S>,
@@ -302,7 +303,7 @@ pub fn all<S: Alter>(
     ensures same { HasCleanDisk (state S.Store conn.new) → (state S.Store conn.old).now.schema ≡ entry_schema
         → OnOk result (IsUnchanged (state S.Store conn.old) (state S.Store conn.new)) }
 
-    // If it fails, the connection is as it was, or its transaction is rolled back, or it is shut.
+    // If the table is there and it fails, the connection is as it was, or its transaction is rolled back, or it is shut.
     ensures aborts { HasCleanDisk (state S.Store conn.new) → (state S.Store conn.old).now.schema ≡ entry_schema
         → OnErr result (Aborts (state S.Store conn.old) (state S.Store conn.new)) }
 
@@ -327,8 +328,8 @@ pub fn all<S: Alter>(
     Ok(listed)
 }
 
-/// Returns the first keys with their bodies from a key on, at most so many, in the byte order of the keys. Returns the error of
-/// the database if it fails.
+/// Returns the first keys with their bodies from a key on, at most `limit`, in the byte order of the keys. Fails if the
+/// database or an allocation fails.
 pub fn range<S: Alter>(
     alloc: Global,
     conn: &mut Connection<S>,
@@ -343,7 +344,7 @@ pub fn range<S: Alter>(
     ensures same { HasCleanDisk (state S.Store conn.new) → (state S.Store conn.old).now.schema ≡ entry_schema
         → OnOk result (IsUnchanged (state S.Store conn.old) (state S.Store conn.new)) }
 
-    // If it fails, the connection is as it was, or its transaction is rolled back, or it is shut.
+    // If the table is there and it fails, the connection is as it was, or its transaction is rolled back, or it is shut.
     ensures aborts { HasCleanDisk (state S.Store conn.new) → (state S.Store conn.old).now.schema ≡ entry_schema
         → OnErr result (Aborts (state S.Store conn.old) (state S.Store conn.new)) }
 
@@ -378,7 +379,7 @@ pub fn len<S: Alter>(conn: &mut Connection<S>) -> Result<u64, Error>
     ensures same { HasCleanDisk (state S.Store conn.new) → (state S.Store conn.old).now.schema ≡ entry_schema
         → OnOk result (IsUnchanged (state S.Store conn.old) (state S.Store conn.new)) }
 
-    // If it fails, the connection is as it was, or its transaction is rolled back, or it is shut.
+    // If the table is there and it fails, the connection is as it was, or its transaction is rolled back, or it is shut.
     ensures aborts { HasCleanDisk (state S.Store conn.new) → (state S.Store conn.old).now.schema ≡ entry_schema
         → OnErr result (Aborts (state S.Store conn.old) (state S.Store conn.new)) }
 

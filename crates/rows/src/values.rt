@@ -1,4 +1,5 @@
 //! Rows of values of your own types: the key and the body of a row are the canonical texts of two values.
+//! If no fault of the disk is known after a call (`HasCleanDisk`), none was known before it (`clean`).
 ghost use Rattle.std.specs.Prelude.{◌≡◌, ◌⊎◌, ◌↔◌, ◌∷◌, [], ℕ, List, false, IfOk, IfSome, OnOk, OnErr, Ok, Err, None, IsTrue};
 ghost use Rattle.std.specs.List.{AllZip};
 ghost use Rattle.miniserde.specs.declared.Error.TheVariants.{Invalid};

@@ -1,4 +1,5 @@
 //! The rows one at a time: a visitor takes each, and no list of all rows is made.
+//! If no fault of the disk is known after a call (`HasCleanDisk`), none was known before it (`clean`).
 ghost use Rattle.std.specs.Prelude.{◌≡◌, ℕ, Bool, List, Result, IfOk, OnOk, OnErr, IsTrue};
 ghost use Rattle.sqlite.specs.Held.{state};
 ghost use Rattle.sqlite.specs.State.{HasCleanDisk, IsUnchanged};
@@ -62,7 +63,7 @@ pub fn visit_rows<S: Alter, V: Visit>(
     ensures same { HasCleanDisk (state S.Store conn.new) → (state S.Store conn.old).now.schema ≡ entry_schema
         → OnOk result (IsUnchanged (state S.Store conn.old) (state S.Store conn.new)) }
 
-    // If it fails, the connection is as it was, or its transaction is rolled back, or it is shut.
+    // If the table is there and it fails, the connection is as it was, or its transaction is rolled back, or it is shut.
     ensures aborts { HasCleanDisk (state S.Store conn.new) → (state S.Store conn.old).now.schema ≡ entry_schema
         → OnErr result (Aborts (state S.Store conn.old) (state S.Store conn.new)) }
 
