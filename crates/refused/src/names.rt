@@ -38,9 +38,10 @@ impl<N: Names> Names for LaterNames<N> {
     ghost names = { later_names N.names };
 
     fn names() -> &'static [&'static str] {
-        match N::names().split_first() {
-            Some(_) => &N::names()[1..],
-            None => &[],
+        let names = N::names();
+        if names.is_empty() {
+            return names;
         }
+        &names[1..]
     }
 }
