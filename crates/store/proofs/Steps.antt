@@ -26,20 +26,20 @@ on_in : (mode : Option Database) (s : State) (P : Type 0) → IsReady mode s →
 on_in None s P ready p = (ready, p)
 on_in (Some base) s P ready p = inl (ready, p)
 
-so_in : (mode : Option Database) (s : State) (P Q : Type 0) → (P → Q) → GoesIn mode s P → GoesIn mode s Q
-so_in None s P Q f (ready, p) = (ready, f p)
-so_in (Some base) s P Q f (inl (ready, p)) = inl (ready, f p)
-so_in (Some base) s P Q f (inr lost) = inr lost
+goes_in_by : (mode : Option Database) (s : State) (P Q : Type 0) → (P → Q) → GoesIn mode s P → GoesIn mode s Q
+goes_in_by None s P Q f (ready, p) = (ready, f p)
+goes_in_by (Some base) s P Q f (inl (ready, p)) = inl (ready, f p)
+goes_in_by (Some base) s P Q f (inr lost) = inr lost
 
 -- a connection that is left alone goes on
 pub stays : (s : State) (P : Type 0) → P → Goes s s P
 stays s P p clean = (clean, λ mode ready. on_in mode s P ready p)
 
 -- a step is what it says
-pub so : (a b : State) (P Q : Type 0) → (P → Q) → Goes a b P → Goes a b Q
-so a b P Q f goes clean =
+pub goes_by : (a b : State) (P Q : Type 0) → (P → Q) → Goes a b P → Goes a b Q
+goes_by a b P Q f goes clean =
     let it = goes clean in
-    (it.0, λ mode ready. so_in mode b P Q f (it.1 mode ready))
+    (it.0, λ mode ready. goes_in_by mode b P Q f (it.1 mode ready))
 
 -- a step that loses no transaction
 abbrev pub Stays : State → State → Type 0 → Type 0
@@ -52,7 +52,7 @@ then a b c P Q R first second f clean =
       soon.0,
       λ mode ready.
           let one = soon.1 mode ready in
-          so_in mode c Q R (λ q. f one.1 q) (late.1 mode one.0),
+          goes_in_by mode c Q R (λ q. f one.1 q) (late.1 mode one.0),
     )
 
 -- a call that changed nothing leaves a connection that serves
@@ -89,14 +89,14 @@ pub record Finds (a b : State) : Type 0 where
   pub kept : HasCleanDisk b → IsServing a → Keeps a b
   pub same : HasCleanDisk b → a.now.schema ≡ entry_schema → IsUnchanged a b
 
--- of a call that failed
+-- what `rows` says of a call that failed
 pub record Fails (a b : State) : Type 0 where
   pub clean : HasCleanDisk b → HasCleanDisk a
   pub serving : HasCleanDisk b → IsServing a → IsServing b
   pub kept : HasCleanDisk b → IsServing a → Keeps a b
   pub aborts : HasCleanDisk b → a.now.schema ≡ entry_schema → Aborts a b
 
--- of one that changed the rows
+-- what `rows` says of a call that changed the rows
 pub record Changes (a b : State) (Change : Type 0) : Type 0 where
   pub clean : HasCleanDisk b → HasCleanDisk a
   pub serving : HasCleanDisk b → IsServing a → IsServing b
@@ -142,8 +142,9 @@ module _ (a b : State) where
   pub found : (P : Type 0) → Finds a b → (HasCleanDisk b → a.now.schema ≡ entry_schema → P) → Stays a b (Found P)
   found P call p = found_in_store P call (λ clean store. p clean store.schema)
 
-  pub failed : Fails a b → Goes a b (Keeps a b)
-  failed call clean = (call.clean clean, by)
+  -- a call that failed keeps the rows, or loses the transaction
+  pub failed_keeps : Fails a b → Goes a b (Keeps a b)
+  failed_keeps call clean = (call.clean clean, by)
     where
       aborted : (base : Database) → IsInside base a → Aborts a b → GoesIn (Some base) b (Keeps a b)
       aborted base s (inl same) = inl (unchanged_inside base a b s same, λ _. (s.is_open, same.0.now_is))

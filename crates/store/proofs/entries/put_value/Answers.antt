@@ -2,7 +2,7 @@
 use Rattle.std.proofs.Common.{sym, subst}
 use Rattle.sqlite.specs.Held.{state}
 use Rattle.store.specs.Answered.{PutsAs, PutsValue, IsTextOf}
-use Rattle.store.proofs.Steps.{so, value_by}
+use Rattle.store.proofs.Steps.{goes_by, value_by}
 use Rattle.store.proofs.entries.put_value.Goals as goal
 
 pub returns-in-Ok : goal.returns-in-Ok
@@ -13,6 +13,6 @@ returns-in-Ok g c =
     let means = g.V.FromJson.means in
     let tree = g.V.Serialize.tree in
     let of = subst (λ t. IsTextOf means tree c.args.body.now t) (sym c.as_str.ensures.value) c.in-Ok.ensures.ok in
-    so old new (PutsAs old c.args.key.now text c.args.status c.put_as.new.response new)
+    goes_by old new (PutsAs old c.args.key.now text c.args.status c.put_as.new.response new)
     (PutsValue means tree old c.args.key.now c.args.body.now c.args.status c.put_as.new.response new)
     (value_by means tree old new c.args.key.now c.args.body.now text c.args.status c.put_as.new.response of) c.put_as.ensures

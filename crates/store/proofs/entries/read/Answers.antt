@@ -3,7 +3,7 @@ use Rattle.std.proofs.Common.{inl, inr, Some, None, Ok, refl, sym, ap, subst}
 use Rattle.sqlite.specs.Held.{state}
 use Rattle.rows.specs.Entries.{Holds, Keeps}
 use Rattle.store.specs.Answered.{IsCurrent, Reads}
-use Rattle.store.proofs.Steps.{so, found, failed, read_found}
+use Rattle.store.proofs.Steps.{goes_by, found, failed_keeps, read_found}
 use Rattle.store.proofs.entries.read.Goals as goal
 
 pub returns-in-Ok-Some : goal.returns-in-Ok-Some
@@ -35,6 +35,6 @@ returns-in-Err g c =
     let old = state g.S.Store c.args.conn.now in
     let new = state g.S.Store c.get.new.conn in
     let rows = c.in-Err.ensures in
-    so old new (Keeps old new) (Reads old c.args.headers.now c.args.key.now _ new)
+    goes_by old new (Keeps old new) (Reads old c.args.headers.now c.args.key.now _ new)
     (λ kept. (kept, inr (record { status = refl; headers = c.requires.headers; body = c.requires.body })))
-    (failed old new (record { clean = rows.clean; serving = rows.serving; kept = rows.kept; aborts = rows.aborts }))
+    (failed_keeps old new (record { clean = rows.clean; serving = rows.serving; kept = rows.kept; aborts = rows.aborts }))

@@ -3,7 +3,7 @@ use Rattle.std.proofs.Common.{inr, Some, None, Ok, refl, sym, ap, subst}
 use Rattle.sqlite.specs.Held.{state}
 use Rattle.rows.specs.Entries.{Holds, Keeps}
 use Rattle.store.specs.Answered.{IsCurrent, RemovesOver, Removes}
-use Rattle.store.proofs.Steps.{so, stays, keeps_self, found, failed, remove_over}
+use Rattle.store.proofs.Steps.{goes_by, stays, keeps_self, found, failed_keeps, remove_over}
 use Rattle.store.proofs.entries.remove.Goals as goal
 
 pub returns-in-Ok-Some : goal.returns-in-Ok-Some
@@ -36,6 +36,6 @@ returns-in-Err g c =
     let old = state g.S.Store c.args.conn.now in
     let new = state g.S.Store c.get.new.conn in
     let rows = c.in-Err.ensures in
-    so old new (Keeps old new) (Removes old c.args.headers.now c.args.key.now _ new)
+    goes_by old new (Keeps old new) (Removes old c.args.headers.now c.args.key.now _ new)
     (λ kept. inr (kept, record { status = refl; headers = c.requires.headers; body = c.requires.body }))
-    (failed old new (record { clean = rows.clean; serving = rows.serving; kept = rows.kept; aborts = rows.aborts }))
+    (failed_keeps old new (record { clean = rows.clean; serving = rows.serving; kept = rows.kept; aborts = rows.aborts }))

@@ -8,7 +8,7 @@ use Rattle.sqlite.specs.Held.{state}
 use Rattle.store.specs.Routes.{IsRead, method_of}
 use Rattle.store.specs.Lists.{query_of}
 use Rattle.store.specs.Answered.{Lists, AnsweredList}
-use Rattle.store.proofs.Steps.{so}
+use Rattle.store.proofs.Steps.{goes_by}
 use Rattle.store.proofs.lists.answer_list.Goals as goal
 
 now_or : (o : Option (Bor (List ℕ))) (default : Bor (List ℕ)) → (unwrap_or o default).now ≡ unwrap_or (option_copied o) default.now
@@ -26,7 +26,7 @@ returns-clause-ok g c =
     let query : c.unwrap_or-query.result.now ≡ query_of request =
     ap (λ (b : Bor (List ℕ)). b.now) c.unwrap_or-query.ensures ∙ now_or c.query.result _
     ∙ ap (λ (o : Option (List ℕ)). unwrap_or o []) (c.query.ensures.value ∙ ap uri_query c.uri.ensures) in
-    so old new (Lists old headers c.unwrap_or-query.result.now response new) (AnsweredList old request response new)
+    goes_by old new (Lists old headers c.unwrap_or-query.result.now response new) (AnsweredList old request response new)
     (λ p. inl (
       is,
       subst (λ h. Lists old h (query_of request) response new) c.headers.ensures

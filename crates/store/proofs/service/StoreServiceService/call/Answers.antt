@@ -6,7 +6,7 @@ use Rattle.sqlite.specs.Held.{state}
 use Rattle.store.specs.Routes.{IsEntry, IsRead, path_of, method_of, put_method, delete_method}
 use Rattle.store.specs.Answered.{Answered, AnsweredList, Reads, Puts, Removes, Goes}
 use Rattle.store.specs.Lists.{IsList}
-use Rattle.store.proofs.Steps.{stays, so, ok_by, keeps_self}
+use Rattle.store.proofs.Steps.{stays, goes_by, ok_by, keeps_self}
 use Rattle.store.proofs.service.StoreServiceService.call.Goals.{in-Read, in-Put, in-Delete}
 use Rattle.store.proofs.service.StoreServiceService.call.Goals as goal
 
@@ -33,7 +33,7 @@ returns-then-is_list-clause-ok g c =
     let is : IsList (path_of request) = sym path ∙ c.is_list.ensures.0 c.if-is_list.true in
     rw (← c.self.view_is)
     (ok_by c.answer_list.result (Goes old new (AnsweredList old request response new)) (Goes old new answers)
-    (so old new (AnsweredList old request response new) answers (λ p. inr (inl (is, p)))) c.answer_list.ensures.ok)
+    (goes_by old new (AnsweredList old request response new) answers (λ p. inr (inl (is, p)))) c.answer_list.ensures.ok)
 
 pub returns-clause-ok : goal.returns-clause-ok
 returns-clause-ok g c =
@@ -51,7 +51,8 @@ returns-clause-ok g c =
           let at : IsEntry (path_of request) key = subst (IsEntry (path_of request)) (sym w.as_str.ensures.value) entry in
           let is : IsRead (method_of request) = subst IsRead c.method.ensures (c.verb_of.ensures.read w.in-Read.is) in
           rw (w.self-is, w.response-is, ← c.self.view_is)
-          (so old new (Reads old w.headers.result.now key w.read.new.response new) (Answered means tree old request w.read.new.response new)
+          (goes_by old new (Reads old w.headers.result.now key w.read.new.response new)
+          (Answered means tree old request w.read.new.response new)
           (λ p. inl (key, at, inl (is, subst (λ h. Reads old h key w.read.new.response new) w.headers.ensures p))) w.read.ensures)
       | in-Put w ↦
           let key = w.as_str-in-Put.result.now in
@@ -60,7 +61,7 @@ returns-clause-ok g c =
           let is : method_of request ≡ put_method = sym c.method.ensures ∙ c.verb_of.ensures.put w.in-Put.is in
           let body : w.as_slice.result.now ≡ body_of request = w.as_slice.ensures ∙ w.body.ensures in
           rw (w.self-is, w.response-is, ← c.self.view_is)
-          (so old new (Puts means tree old w.headers-in-Put.result.now key w.as_slice.result.now w.put.new.response new)
+          (goes_by old new (Puts means tree old w.headers-in-Put.result.now key w.as_slice.result.now w.put.new.response new)
           (Answered means tree old request w.put.new.response new)
           (λ p. inl (
             key,
@@ -78,7 +79,7 @@ returns-clause-ok g c =
           let at : IsEntry (path_of request) key = subst (IsEntry (path_of request)) (sym w.as_str-in-Delete.ensures.value) entry in
           let is : method_of request ≡ delete_method = sym c.method.ensures ∙ c.verb_of.ensures.delete w.in-Delete.is in
           rw (w.self-is, w.response-is, ← c.self.view_is)
-          (so old new (Removes old w.headers-in-Delete.result.now key w.remove.new.response new)
+          (goes_by old new (Removes old w.headers-in-Delete.result.now key w.remove.new.response new)
           (Answered means tree old request w.remove.new.response new)
           (λ p. inl (key, at, inr (inr (inl (is, subst (λ h. Removes old h key w.remove.new.response new) w.headers-in-Delete.ensures p)))))
           w.remove.ensures)
