@@ -1,7 +1,7 @@
 //! Puts rows into a store and reads them again, for `bench/rows`.
 //!
 //! `rows_driver JOB COUNT [FILE]`: the key of a row is its number, from 0 on, and its body the number and a text. Without
-//! FILE the store is in memory. The last line is the number of rows that were found. The jobs:
+//! FILE the store is in memory. The line that it writes is the number of rows that were found. The jobs:
 //! - `put` puts COUNT rows in one transaction, and `commits` each in its own; they find as many rows as `len` counts.
 //! - `get` gets COUNT rows by their keys, and `all` reads all rows.
 #![tactic(auto)]
