@@ -18,7 +18,7 @@ pub begins : (old new : State) (r : Result ℕ Error) → old.now.schema ≡ ent
 begins old new (Err e) has h = tt
 begins old new (Ok count) has h =
     let w = runs_as begin_text [] old new entry_schema has Begin begin_is.0 begin_is.1 count h in
-    record { outside = w.0; inside = w.1.mode; is_open = w.1.is_open; now = w.1.now_is; committed = w.1.committed_is }
+    record { was_outside = w.0; inside = w.1.mode; is_open = w.1.is_open; now = w.1.now_is; committed = w.1.committed_is }
 
 pub begins_open : (old new : State) (r : Result ℕ Error) → old.in_transaction ≡ false → Executes begin_text [] old new r
     → OnOk r (IsTrue old.is_open)
@@ -39,7 +39,7 @@ rolls_back old new (Ok count) has h =
     let w = runs_as rollback_text [] old new entry_schema has Rollback rollback_is.0 rollback_is.1 count h in (
       w.0,
       record {
-        outside = w.1.autocommit;
+        is_outside = w.1.autocommit;
         was_open = w.1.was_open;
         now = λ live. (w.1.undone live).0;
         committed = λ live. (w.1.undone live).1;
@@ -51,7 +51,7 @@ pub back_serving : (old new : State) (r : Result ℕ Error) → IsStore old.comm
     → OnOk r (IsServing new)
 back_serving old new (Err e) was h = tt
 back_serving old new (Ok count) was h =
-    (h.1.outside, λ live. (h.1.committed live ∙ sym (h.1.now live), subst IsStore (sym (h.1.now live)) was))
+    (h.1.is_outside, λ live. (h.1.committed live ∙ sym (h.1.now live), subst IsStore (sym (h.1.now live)) was))
 
 -- a write inside of a transaction commits nothing
 stays_by : (old new : State) (inside : Bool) → inside ≡ true

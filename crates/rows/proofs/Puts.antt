@@ -123,7 +123,7 @@ only_agree : (a : Bool) → ((a && true) || false) ≡ true → a ≡ true
 only_agree true h = refl
 only_agree false h = h
 
--- a row meets the target of the clause by its key
+-- a row that conflicts with the new one at column 1, the target of `ON CONFLICT(key)`, has its key
 meets_by : (new row : Row) (key : List ℕ) → column new 1 ≡ Text key → conflicts (Some (1 ∷ [])) entry_schema.indexes entry new row ≡ true
     → key_of row ≡ Text key
 unfolding first_key

@@ -161,7 +161,7 @@ IsCommitted s = (s.in_transaction ≡ false) × (s.committed ≡ s.now)
 
 -- the connection was outside of a transaction and is inside of one, where it sees what it saw before
 pub record IsBegun (old new : State) : Type 0 where
-  pub outside : old.in_transaction ≡ false
+  pub was_outside : old.in_transaction ≡ false
   pub inside : new.in_transaction ≡ true
   pub is_open : IsTrue new.is_open
   pub now : new.now ≡ old.now
@@ -176,7 +176,7 @@ pub record StaysInside (old new : State) : Type 0 where
 
 -- The connection is outside of a transaction. Unless it is shut, it sees its last commit, which is the one from before.
 pub record IsBack (old new : State) : Type 0 where
-  pub outside : new.in_transaction ≡ false
+  pub is_outside : new.in_transaction ≡ false
   pub was_open : IsTrue new.is_open → IsTrue old.is_open
   pub now : IsTrue new.is_open → new.now ≡ old.committed
   pub committed : IsTrue new.is_open → new.committed ≡ old.committed

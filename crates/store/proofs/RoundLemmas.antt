@@ -80,7 +80,7 @@ module _ (begun m : Map) (a b : State) where
   rolls_back (Ok count) (base, inr s, is) inside back aborts =
       let it = (back s.store.schema).1 in
       let lost : IsLost base b = record {
-        outside = it.outside;
+        outside = it.is_outside;
         back = λ live. (it.now live ∙ s.committed, it.committed live ∙ s.committed);
         last = s.last;
       } in

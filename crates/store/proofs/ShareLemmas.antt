@@ -22,7 +22,7 @@ starts m s true represents = inl (represents, refl)
 starts m s false off = off
 
 module _ {S : Type 0} (g : Ghosts S) {V : Type 0} (means : Meaning V) (tree : V → Tree) where
-  -- what the service answers, and what it settles
+  -- what the service answers in a round; a state is its connection, and whether the round still stands
   abbrev pub answers : Held S × Bool → HttpRequest (List ℕ) → Response → Held S × Bool → Type 0
   answers old request response new = AnsweredInRound means tree (state g old.0) old.1 request response (state g new.0) new.1
 
@@ -49,6 +49,7 @@ module _ {S : Type 0} (g : Ghosts S) {V : Type 0} (means : Meaning V) (tree : V 
       )
 
 module _ {S : Type 0} (g : Ghosts S) where
+  -- how the service settles a round; a state is its connection, and whether the round still stands
   abbrev pub settles : Held S × Bool → Bool → Held S × Bool → Type 0
   settles old kept new = SettlesRound (state g old.0) old.1 kept (state g new.0) new.1
 

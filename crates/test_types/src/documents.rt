@@ -16,7 +16,8 @@ fn is_copied(alloc: Global, text: &str, expected: &str) -> Result<bool> {
     is_written(alloc, &value.try_clone(alloc)?, expected)
 }
 
-/// Returns whether a document is read as each type of documents that takes any, and its copy is written as expected.
+/// Returns whether a document without duplicate names is read and fed as `Value`, `Unique` and `Document`, is copied as a
+/// `Value`, and has the expected canonical text, also by the way over a `Value`.
 fn is_document(alloc: Global, text: &str, expected: &str) -> Result<bool> {
     Ok(
         is_copied(alloc, text, expected)?

@@ -1,4 +1,6 @@
--- The rows of the answer are the keys and bodies that the loop pushed.
+-- The rows of the answer are the keys and bodies that the loop pushed. After the query the call does not touch the
+-- connection, so each later exit has the same answers: those of the query, which `listed` gives of a store that is served
+-- (that the connection was open, and `Aborts`).
 use Rattle.std.proofs.Common.{◌≤◌, inl, [], length, map, rules}
 use Rattle.sqlite.specs.Held.{state}
 use Rattle.rows.specs.Entries.{texts_of, words_of}
