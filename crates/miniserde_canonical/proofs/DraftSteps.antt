@@ -31,7 +31,7 @@ pub record EmptyDraft (d : Draft) : Type 0 where
   pub bytes : d.out.bytes.items ≡ []
   pub splices : d.out.splices.items ≡ []
   pub groups : d.groups.bytes.items ≡ []
-  pub inner : d.groups.splices.items ≡ []
+  pub groups_splices : d.groups.splices.items ≡ []
   pub members : d.members.items ≡ []
   pub opened : d.opened.items ≡ []
   pub distinct : d.is_distinct ≡ true
@@ -45,7 +45,7 @@ draft_starts {d = d} input i l e = record {
   holding = record {
     chain = subst (λ z. Chain z [] d.groups (text_from text_begin [] d.out.splices.items) []) (sym e.members)
         (subst (λ z. FilledPart d.groups (text_from text_begin [] z) []) (sym e.splices) none);
-    good = subst (λ z. SplicesInOrder z d.out.splices.items) (sym e.inner)
+    good = subst (λ z. SplicesInOrder z d.out.splices.items) (sym e.groups_splices)
         (subst (λ z. SplicesInOrder [] z) (sym e.splices) (tt, tt));
     opened = e.opened;
     distinct = e.distinct;
@@ -55,8 +55,8 @@ draft_starts {d = d} input i l e = record {
 -- if only the text and the run of a draft change, it holds the same state
 pub keep_holding : {d d' : Draft} {bs : List ℕ} {s : State} → ChangesOnlyText d d' → Holding d bs s → Holding d' bs s
 keep_holding {d = d} {d' = d'} k h = record {
-  chain = rw (k.members, k.splices) (chain_stays _ _ _ _ (groups_same k.groups k.inner) h.chain);
-  good = subst (λ z. SplicesInOrder z d'.out.splices.items) (sym k.inner)
+  chain = rw (k.members, k.splices) (chain_stays _ _ _ _ (groups_same k.groups k.groups_splices) h.chain);
+  good = subst (λ z. SplicesInOrder z d'.out.splices.items) (sym k.groups_splices)
       (subst (λ z. SplicesInOrder d.groups.splices.items z) (sym k.splices) h.good);
   opened = k.opened ∙ h.opened;
   distinct = k.distinct ∙ h.distinct;
@@ -86,12 +86,12 @@ holding_added {d = d} {bs = bs} {s = s} x a r = record {
 pub record KeepsGroups (d d' : Draft) : Type 0 where
   pub splices : d'.out.splices.items ≡ d.out.splices.items
   pub groups : d'.groups.bytes.items ≡ d.groups.bytes.items
-  pub inner : d'.groups.splices.items ≡ d.groups.splices.items
+  pub groups_splices : d'.groups.splices.items ≡ d.groups.splices.items
   pub distinct : d'.is_distinct ≡ d.is_distinct
 
 still_good : {d d' : Draft} → KeepsGroups d d' → SplicesInOrder d.groups.splices.items d.out.splices.items
     → SplicesInOrder d'.groups.splices.items d'.out.splices.items
-still_good {d = d} {d' = d'} k g = subst (λ z. SplicesInOrder z d'.out.splices.items) (sym k.inner)
+still_good {d = d} {d' = d'} k g = subst (λ z. SplicesInOrder z d'.out.splices.items) (sym k.groups_splices)
     (subst (λ z. SplicesInOrder d.groups.splices.items z) (sym k.splices) g)
 
 -- a draft has as many members as its state has entries
@@ -104,7 +104,7 @@ pub holding_opened : {d d' : Draft} {bs : List ℕ} {s s' : State} → KeepsGrou
     → d'.opened.items ≡ d.opened.items ++ length d.members.items ∷ [] → TokenStep object s s' → Holding d bs s
     → Holding d' (bs ++ 123 ∷ []) s'
 holding_opened {d = d} {d' = d'} {bs = bs} {s = s} {s' = s'} k m o a r = record {
-  chain = rw (m, k.splices, a.1, a.0) (chain_stays _ _ _ _ (groups_same k.groups k.inner)
+  chain = rw (m, k.splices, a.1, a.0) (chain_stays _ _ _ _ (groups_same k.groups k.groups_splices)
       (chain_plain d.members.items s.entries d.groups bs d.out.splices.items s.last (123 ∷ []) r.chain));
   good = still_good k r.good;
   opened = o ∙ ap₂ (λ (x : List ℕ) (y : ℕ). x ++ y ∷ []) r.opened (as_many_entries r) ∙ sym a.2;
@@ -126,7 +126,7 @@ holding_begun {d = d} {d' = d'} {bs = bs} {s = s} {s' = s'} n name_text k m o be
     let begun : Chain ns (s.entries ++ y ∷ []) d.groups (text_from text_begin cs d.out.splices.items) [] =
     chain_begin d.members.items s.entries d.groups (text_from text_begin bs d.out.splices.items) s.last r.chain refl begins in
     record {
-      chain = rw (m, k.splices, a.0, a.1) (chain_stays _ _ _ _ (groups_same k.groups k.inner)
+      chain = rw (m, k.splices, a.0, a.1) (chain_stays _ _ _ _ (groups_same k.groups k.groups_splices)
           (chain_plain ns (s.entries ++ y ∷ []) d.groups cs d.out.splices.items [] x begun));
       good = still_good k r.good;
       opened = o ∙ r.opened ∙ sym a.2;
@@ -202,7 +202,7 @@ holding_same {d = d} {d' = d'} {bs = bs} {s = s} f l k m r =
     chain_merge (take f d.members.items) (take f s.entries) (drop f d.members.items) (drop f s.entries) d.groups text
     s.last (as_many d bs s f r l) (parted d bs s f r) in
     record {
-      chain = rw (m, k.splices) (chain_stays _ _ _ _ (groups_same k.groups k.inner) c);
+      chain = rw (m, k.splices) (chain_stays _ _ _ _ (groups_same k.groups k.groups_splices) c);
       good = still_good k r.good;
       opened = refl;
       distinct = k.distinct ∙ r.distinct;

@@ -37,60 +37,60 @@ own_first : {n : Member} (ns : List Member) {e : MemberEntry} (es : List MemberE
 own_first {n = n} [] {e = e} [] groups {out = out} last end i o =
     let bs = out.bytes.items in
     let hs = out.splices.items in
-    let long = ap length o.bytes ∙ length-append o.front o.inside in
-    let many = ap length o.splices ∙ length-append o.splices_front o.splices_inside in
+    let long = ap length o.bytes ∙ length-append o.before o.behind in
+    let many = ap length o.splices ∙ length-append o.splices_before o.splices_behind in
     holds_between groups out n.point end
-    (omega (arith, i.bytes, o.begins, long), omega (arith, i.bytes), omega (arith, i.splices, o.behind, many), omega (arith, i.splices))
-    (between_end n.point.bytes end.bytes bs o.front o.inside o.bytes o.begins i.bytes)
-    (between_end n.point.splices end.splices hs o.splices_front o.splices_inside o.splices o.behind i.splices) o.chain
+    (omega (arith, i.bytes, o.begins, long), omega (arith, i.bytes), omega (arith, i.splices, o.begins_splices, many), omega (arith, i.splices))
+    (between_end n.point.bytes end.bytes bs o.before o.behind o.bytes o.begins i.bytes)
+    (between_end n.point.splices end.splices hs o.splices_before o.splices_behind o.splices o.begins_splices i.splices) o.is_behind
 own_first {n = n} (m ∷ ns) {e = e} (f ∷ es) groups {out = out} last end i o =
     let bs = out.bytes.items in
     let hs = out.splices.items in
-    let r = o.chain in
-    let text : bs ≡ o.front ++ (r.before ++ (comma_before f.first ++ r.behind)) = o.bytes ∙ ap (λ z. o.front ++ z) r.bytes in
-    let splices : hs ≡ o.splices_front ++ (r.splices_before ++ r.splices_behind) = o.splices ∙ ap (λ z. o.splices_front ++ z) r.splices in
+    let r = o.is_behind in
+    let text : bs ≡ o.before ++ (r.before ++ (comma_before f.first ++ r.behind)) = o.bytes ∙ ap (λ z. o.before ++ z) r.bytes in
+    let splices : hs ≡ o.splices_before ++ (r.splices_before ++ r.splices_behind) = o.splices ∙ ap (λ z. o.splices_before ++ z) r.splices in
     let comma : length (comma_before m.first) ≡ length (comma_before f.first) = ap (λ z. length (comma_before z)) r.first in
     let wide : m.point.bytes - length (comma_before m.first) ≡ n.point.bytes + length r.before =
     omega (arith, r.begins, length-append r.before (comma_before f.first), comma) in
-    let long = ap length text ∙ length-append o.front (r.before ++ (comma_before f.first ++ r.behind)) in
+    let long = ap length text ∙ length-append o.before (r.before ++ (comma_before f.first ++ r.behind)) in
     let more = length-append r.before (comma_before f.first ++ r.behind) in
-    let many = ap length splices ∙ length-append o.splices_front (r.splices_before ++ r.splices_behind) in
+    let many = ap length splices ∙ length-append o.splices_before (r.splices_before ++ r.splices_behind) in
     holds_between groups out n.point (before_comma (m ∷ ns) end) (
       omega (arith, wide),
       omega (arith, wide, o.begins, long, more),
       omega (arith, r.begins_splices),
-      omega (arith, r.begins_splices, o.behind, many, length-append r.splices_before r.splices_behind),
+      omega (arith, r.begins_splices, o.begins_splices, many, length-append r.splices_before r.splices_behind),
     )
-    (between_mid n.point.bytes (m.point.bytes - length (comma_before m.first)) bs o.front r.before
+    (between_mid n.point.bytes (m.point.bytes - length (comma_before m.first)) bs o.before r.before
     (comma_before f.first ++ r.behind) text o.begins wide)
-    (between_mid n.point.splices m.point.splices hs o.splices_front r.splices_before r.splices_behind splices o.behind
+    (between_mid n.point.splices m.point.splices hs o.splices_before r.splices_before r.splices_behind splices o.begins_splices
     r.begins_splices) r.is_before
-own_first [] (f ∷ es) groups last end i o = absurd o.chain
-own_first (m ∷ ns) [] groups last end i o = absurd o.chain
+own_first [] (f ∷ es) groups last end i o = absurd o.is_behind
+own_first (m ∷ ns) [] groups last end i o = absurd o.is_behind
 
 own_tail : {n : Member} (ns : List Member) {e : MemberEntry} (es : List MemberEntry) (groups : SplicedText) {out : SplicedText}
     (last : List ℕ) → EndsWithMembers (n ∷ ns) (e ∷ es) groups out last → EndsWithMembers ns es groups out last
 own_tail [] [] groups last o = tt
 own_tail (m ∷ ns) (f ∷ es) groups last o =
-    let r = o.chain in
-    let front = o.front ++ (r.before ++ comma_before f.first) in
+    let r = o.is_behind in
+    let before = o.before ++ (r.before ++ comma_before f.first) in
     record {
-      front = front;
-      inside = r.behind;
-      splices_front = o.splices_front ++ r.splices_before;
-      splices_inside = r.splices_behind;
-      bytes = o.bytes ∙ ap (λ z. o.front ++ z) r.bytes ∙ rejoin o.front r.before (comma_before f.first) r.behind;
-      splices = o.splices ∙ ap (λ z. o.splices_front ++ z) r.splices ∙ sym (append_assoc o.splices_front r.splices_before r.splices_behind);
-      begins = omega (arith, r.begins, o.begins, length-append o.front (r.before ++ comma_before f.first));
-      behind = omega (arith, r.begins_splices, o.behind, length-append o.splices_front r.splices_before);
+      before = before;
+      behind = r.behind;
+      splices_before = o.splices_before ++ r.splices_before;
+      splices_behind = r.splices_behind;
+      bytes = o.bytes ∙ ap (λ z. o.before ++ z) r.bytes ∙ rejoin o.before r.before (comma_before f.first) r.behind;
+      splices = o.splices ∙ ap (λ z. o.splices_before ++ z) r.splices ∙ sym (append_assoc o.splices_before r.splices_before r.splices_behind);
+      begins = omega (arith, r.begins, o.begins, length-append o.before (r.before ++ comma_before f.first));
+      begins_splices = omega (arith, r.begins_splices, o.begins_splices, length-append o.splices_before r.splices_before);
       name = r.name;
-      chain = r.is_behind;
+      is_behind = r.is_behind;
     }
   where
     rejoin : (a b x c : List ℕ) → a ++ (b ++ (x ++ c)) ≡ (a ++ (b ++ x)) ++ c
     rejoin a b x c = simp append_assoc refl
-own_tail [] (f ∷ es) groups last o = absurd o.chain
-own_tail (m ∷ ns) [] groups last o = absurd o.chain
+own_tail [] (f ∷ es) groups last o = absurd o.is_behind
+own_tail (m ∷ ns) [] groups last o = absurd o.is_behind
 
 own_none : (ns : List Member) (es : List MemberEntry) (groups : SplicedText) {out : SplicedText} (last : List ℕ) {end : Point}
     → IsEnd end out → ns ≡ [] → es ≡ [] → HoldsBetween groups out (begin_of ns end) (end_of ns end) (text_at es last)
@@ -130,7 +130,7 @@ pub own_agrees : (ns : List Member) (es : List MemberEntry) (groups out : Splice
     → EndsWithMembers ns es groups out last → Agree ns es
 own_agrees [] [] groups out last o = tt
 own_agrees (n ∷ ns) (e ∷ es) groups out last o =
-    (o.name, chain_agrees ns es groups (text_from n.point o.inside o.splices_inside) last o.chain)
+    (o.name, chain_agrees ns es groups (text_from n.point o.behind o.splices_behind) last o.is_behind)
 own_agrees [] (e ∷ es) groups out last o = absurd o
 own_agrees (n ∷ ns) [] groups out last o = absurd o
 
@@ -139,14 +139,14 @@ pub cut_own : {B K : TextFrom → Type 0} (n : Member) (e : MemberEntry) (out : 
     → Seam B K n e (text_from text_begin out.bytes.items out.splices.items) → EndsWithMembersFrom K n e out
 cut_own n e out c =
     record {
-      front = c.before ++ comma_before e.first;
-      inside = c.behind;
-      splices_front = c.splices_before;
-      splices_inside = c.splices_behind;
+      before = c.before ++ comma_before e.first;
+      behind = c.behind;
+      splices_before = c.splices_before;
+      splices_behind = c.splices_behind;
       bytes = c.bytes ∙ sym (append_assoc c.before (comma_before e.first) c.behind);
       splices = c.splices;
       begins = omega (arith, c.begins);
-      behind = omega (arith, c.begins_splices);
+      begins_splices = omega (arith, c.begins_splices);
       name = c.name;
-      chain = c.is_behind;
+      is_behind = c.is_behind;
     }

@@ -1,5 +1,5 @@
 -- The draft of a reader takes each token that the reader takes. `Taken` is the invariant of the reader's loop: the
--- tokens so far, a run over them from the start, and a draft that represents the state of the run.
+-- tokens so far, the steps over them from the start, and a draft that represents the state after them.
 use Rattle.std.proofs.Common.{◌≡◌, ◌≤◌, ℕ, Bool, true, false, None, is_some, List, [], ◌∷◌, ◌++◌, length, refl, sym}
 use Rattle.std.proofs.Common.{ap, subst, ◌∙◌, arith, length-append, append_assoc}
 use Rattle.miniserde_model.specs.Tree.{Tree}
@@ -161,7 +161,7 @@ pub record Taken (j : List ℕ) (m : Moment) (st : List Kind) (rest : List ℕ) 
   pub tokens : List CanonicalToken
   pub state : State
   pub reads : ReadsTokens due [] j tokens m st rest
-  pub run : TokenSteps tokens initial_state state
+  pub steps : TokenSteps tokens initial_state state
   pub represents : Represents d rest state
   pub recalls : Recalls m state
 
@@ -176,7 +176,7 @@ taken_first {j = j} {rest = rest} {st = st} {su = su} {ks = ks} {m = m} e f r p 
       state = a.0;
       reads =
           subst (λ z. ReadsTokens due z j ks m st rest) e (subst (λ z. ReadsTokens due su z ks m st rest) f p);
-      run = a.1;
+      steps = a.1;
       represents = a.2;
       recalls = a.3;
     }
@@ -192,8 +192,8 @@ taken_more {ks = ks} t p f =
       state = a.0;
       reads =
           ReadsTokens-append t.reads p;
-      run =
-          steps_append t.tokens ks initial_state t.state a.0 t.run a.1;
+      steps =
+          steps_append t.tokens ks initial_state t.state a.0 t.steps a.1;
       represents = a.2;
       recalls = a.3;
     }
@@ -204,7 +204,7 @@ pub taken_all : {j rest : List ℕ} {st : List Kind} {d : Draft} (f : Bool) → 
     × TokenSteps (tokens t) initial_state s × Represents d rest s
 taken_all {st = st} f e w k =
     let t = end_ok f st e k.reads w in
-    (t.0, k.state, t.1, subst (λ z. TokenSteps z initial_state k.state) t.2 k.run, k.represents)
+    (t.0, k.state, t.1, subst (λ z. TokenSteps z initial_state k.state) t.2 k.steps, k.represents)
 
 -- the rest after whitespace and a part is no longer than the text
 pub stands_less : {P : List ℕ → Type 0} (s r : List ℕ) → Stands P s r → length r ≤ length s

@@ -283,7 +283,7 @@ own_within : (ns : List Member) (es : List MemberEntry) (groups out : SplicedTex
     → EndsWithMembers ns es groups out last
     → (begin_of ns text_begin).bytes ≤ length out.bytes.items
 own_within [] [] groups out last o = omega arith
-own_within (n ∷ ns) (e ∷ es) groups out last o = omega (arith, o.begins, ap length o.bytes, length-append o.front o.inside)
+own_within (n ∷ ns) (e ∷ es) groups out last o = omega (arith, o.begins, ap length o.bytes, length-append o.before o.behind)
 own_within [] (e ∷ es) groups out last o = absurd o
 own_within (n ∷ ns) [] groups out last o = absurd o
 

@@ -56,6 +56,7 @@ pub fn reopen<D: Disk + Drop>(
         → (file_state again).now.schema ≡ entry_schema → IsServing (file_state again)) }
     ensures clean { IfOk result (λ again. HasCleanDisk (file_state again) → HasCleanDisk (file_state conn)) }
 {
+    // For the clause `live` alone: the database of an open connection is well formed.
     let _schema = conn.schema();
     let files = match conn.close_files() {
         Ok(files) => files,

@@ -359,6 +359,7 @@ pub fn range<S: Alter>(
         → Keeps (state S.Store conn.old) (state S.Store conn.new) }
     ensures clean { HasCleanDisk (state S.Store conn.new) → HasCleanDisk (state S.Store conn.old) }
 {
+    // For the clause `live` alone: the database of an open connection is well formed.
     let _schema = conn.schema();
     let rows = query_range(conn, from, limit)?;
     let mut page = Vec::new(alloc);

@@ -78,6 +78,7 @@ pub fn visit_rows<S: Alter, V: Visit>(
         → Keeps (state S.Store conn.old) (state S.Store conn.new) }
     ensures clean { HasCleanDisk (state S.Store conn.new) → HasCleanDisk (state S.Store conn.old) }
 {
+    // For the clause `live` alone: the database of an open connection is well formed.
     let _schema = conn.schema();
     let mut rows = conn.query("SELECT key, body FROM entry ORDER BY key", &[])?;
     'rows: for _ in 0..u64::MAX {

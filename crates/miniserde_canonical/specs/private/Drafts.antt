@@ -45,7 +45,7 @@ pub record TakesPart (span : InputSpan) (rest part rest' : List ℕ) : Type 0 wh
 pub record ChangesOnlyText (d d' : Draft) : Type 0 where
   pub splices : d'.out.splices.items ≡ d.out.splices.items
   pub groups : d'.groups.bytes.items ≡ d.groups.bytes.items
-  pub inner : d'.groups.splices.items ≡ d.groups.splices.items
+  pub groups_splices : d'.groups.splices.items ≡ d.groups.splices.items
   pub members : d'.members.items ≡ d.members.items
   pub opened : d'.opened.items ≡ d.opened.items
   pub distinct : d'.is_distinct ≡ d.is_distinct

@@ -40,16 +40,16 @@ Chain _ _ groups text last = ⊥
 
 -- the text `out` ends with the member n, which stands for the entry e, and those after it; K holds of the part from n on
 pub record EndsWithMembersFrom (K : TextFrom → Type 0) (n : Member) (e : MemberEntry) (out : SplicedText) : Type 0 where
-  pub front : List ℕ
-  pub inside : List ℕ
-  pub splices_front : List Splice
-  pub splices_inside : List Splice
-  pub bytes : out.bytes.items ≡ front ++ inside
-  pub splices : out.splices.items ≡ splices_front ++ splices_inside
-  pub begins : n.point.bytes ≡ length front
-  pub behind : n.point.splices ≡ length splices_front
+  pub before : List ℕ
+  pub behind : List ℕ
+  pub splices_before : List Splice
+  pub splices_behind : List Splice
+  pub bytes : out.bytes.items ≡ before ++ behind
+  pub splices : out.splices.items ≡ splices_before ++ splices_behind
+  pub begins : n.point.bytes ≡ length before
+  pub begins_splices : n.point.splices ≡ length splices_before
   pub name : name_of n.name ≡ e.name
-  pub chain : K (text_from n.point inside splices_inside)
+  pub is_behind : K (text_from n.point behind splices_behind)
 
 -- over the groups, the text `out` ends with the texts of the entries es, for which the members ns stand, the last one's
 -- being `last`; without members it is any text

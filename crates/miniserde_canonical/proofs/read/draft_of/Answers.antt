@@ -2,7 +2,7 @@
 -- invariant (`Taken`), and each exit is a lemma over plain variables of `WholeTexts.antt` or `ReaderDrafts.antt`.
 use Rattle.std.proofs.Common.{◌≡◌, None, length, sym, ap, subst, ◌∙◌}
 use Rattle.std.proofs.lemmas.Result.{err_from_is_err_and}
-use Rattle.miniserde_model.specs.private.Reading.{due, after}
+use Rattle.miniserde_model.specs.private.Reading.{due}
 use Rattle.miniserde_text.specs.private.Stack.{innermost}
 use Rattle.miniserde_text.specs.private.Moments.{first_or_after, due_or_after}
 use Rattle.miniserde_canonical.specs.private.EventTokens.{ReadsTokens}

@@ -59,7 +59,7 @@ returns-then-rises c = λ rest s r at.
         wrote =
             record { front = w.front; run = w.run; input = w.input; left = w.left; text = w.text };
         holding =
-            holding_same f within (record { splices = refl; groups = refl; inner = refl; distinct = refl })
+            holding_same f within (record { splices = refl; groups = refl; groups_splices = refl; distinct = refl })
             c.truncate.ensures.items r.holding;
       },
     )

@@ -32,7 +32,7 @@ returns-in_ok-push-in-Negative-clause-takes c = λ rest part rest' x s s' r take
     (record {
       splices = same.splices;
       groups = same.groups;
-      inner = same.inner;
+      groups_splices = same.groups_splices;
       members = same.members;
       opened = same.opened;
       distinct = same.distinct;
@@ -59,7 +59,7 @@ returns-in_ok-put_quoted-in-Str-clause-takes c = λ rest part rest' x s s' r tak
     (record {
       splices = same.splices;
       groups = same.groups;
-      inner = same.inner;
+      groups_splices = same.groups_splices;
       members = same.members;
       opened = same.opened;
       distinct = same.distinct;
@@ -96,7 +96,7 @@ returns-in-MapStart-clause-takes c = λ rest part rest' x s s' r takes w p h.
     record {
       bytes = r.bytes ++ 123 ∷ [];
       wrote = record { front = w.front; run = w.run; input = w.input; left = w.left; text = w.text };
-      holding = holding_opened (record { splices = refl; groups = refl; inner = refl; distinct = refl }) refl
+      holding = holding_opened (record { splices = refl; groups = refl; groups_splices = refl; distinct = refl }) refl
           (c.in_ok-push-in-MapStart.ensures.items ∙ ap (λ z. d.opened.items ++ z ∷ []) number) o r.holding;
     }
 

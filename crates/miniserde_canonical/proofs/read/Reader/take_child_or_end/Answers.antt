@@ -1,6 +1,6 @@
 -- `take_child_or_end` reads the token of an end, an element or a name, and the draft takes the same token. By cases
--- of the lexer's result and of the kind, each with a lemma of `Consumes.antt` for the text and one of `ReaderDrafts.antt` for
--- the draft.
+-- of the lexer's result and of the kind, for the clause `reads` each with a `reads_` lemma of `WholeTexts.antt` for the
+-- text and a `takes_` lemma of `ReaderDrafts.antt` for the draft, for `invalid` with an `_ends` lemma of `Consumes.antt`.
 use Rattle.std.proofs.Common.{◌≡◌, ℕ, List, true, false, ◌∷◌, [], ◌++◌, sym, ap, subst, ◌∙◌, arith}
 use Rattle.std.proofs.lemmas.Result.{err_from_is_err_and}
 use Rattle.std.specs.String.{string_bytes}
