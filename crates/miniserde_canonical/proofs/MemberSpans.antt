@@ -39,8 +39,12 @@ own_first {n = n} [] {e = e} [] groups {out = out} last end i o =
     let hs = out.splices.items in
     let long = ap length o.bytes ∙ length-append o.before o.behind in
     let many = ap length o.splices ∙ length-append o.splices_before o.splices_behind in
-    holds_between groups out n.point end
-    (omega (arith, i.bytes, o.begins, long), omega (arith, i.bytes), omega (arith, i.splices, o.begins_splices, many), omega (arith, i.splices))
+    holds_between groups out n.point end (
+      omega (arith, i.bytes, o.begins, long),
+      omega (arith, i.bytes),
+      omega (arith, i.splices, o.begins_splices, many),
+      omega (arith, i.splices),
+    )
     (between_end n.point.bytes end.bytes bs o.before o.behind o.bytes o.begins i.bytes)
     (between_end n.point.splices end.splices hs o.splices_before o.splices_behind o.splices o.begins_splices i.splices) o.is_behind
 own_first {n = n} (m ∷ ns) {e = e} (f ∷ es) groups {out = out} last end i o =
@@ -74,13 +78,14 @@ own_tail [] [] groups last o = tt
 own_tail (m ∷ ns) (f ∷ es) groups last o =
     let r = o.is_behind in
     let before = o.before ++ (r.before ++ comma_before f.first) in
+    let joined = sym (append_assoc o.splices_before r.splices_before r.splices_behind) in
     record {
       before = before;
       behind = r.behind;
       splices_before = o.splices_before ++ r.splices_before;
       splices_behind = r.splices_behind;
       bytes = o.bytes ∙ ap (λ z. o.before ++ z) r.bytes ∙ rejoin o.before r.before (comma_before f.first) r.behind;
-      splices = o.splices ∙ ap (λ z. o.splices_before ++ z) r.splices ∙ sym (append_assoc o.splices_before r.splices_before r.splices_behind);
+      splices = o.splices ∙ ap (λ z. o.splices_before ++ z) r.splices ∙ joined;
       begins = omega (arith, r.begins, o.begins, length-append o.before (r.before ++ comma_before f.first));
       begins_splices = omega (arith, r.begins_splices, o.begins_splices, length-append o.splices_before r.splices_before);
       name = r.name;
