@@ -1,8 +1,13 @@
-//! Types of other crates as the values of fields: a UUID of the toolchain's crate `uuid`, and a version of `semver`.
+//! Types of other crates as the values of fields: a UUID of the toolchain's crate `uuid`, a version of `semver`, a date of
+//! `jiff`, and bytes by `base64`.
 #![tactic(auto)]
 
 #[cfg(test)]
+mod blobs;
+#[cfg(test)]
 mod callers;
+#[cfg(test)]
+mod days;
 #[cfg(test)]
 mod ids;
 #[cfg(test)]
@@ -11,6 +16,8 @@ mod releases;
 mod requests;
 #[cfg(test)]
 mod tests;
+#[cfg(test)]
+mod uploads;
 #[cfg(test)]
 mod uuids;
 #[cfg(test)]

@@ -5,6 +5,7 @@ use crate::callers::{accounts_are_stable, id_of, same_account};
 use crate::ids::{Account, AccountId};
 use crate::releases::Release;
 use crate::requests::{RequestError, addressed};
+use crate::uploads::{Blob, Day, Upload};
 use miniserde::json::{feed, from_str, to_string};
 use miniserde::{Deserialize, Error, Result, Serialize};
 use std::alloc::Global;
@@ -88,4 +89,46 @@ fn an_error_says_which_part_is_refused(rt: HostRuntime) -> std::result::Result<(
     let refused = addressed(alloc, path, "7").err();
     assert!(rt; refused == Some(RequestError::Body(Error::Invalid)));
     Ok(())
+}
+
+const DAYS: &str = r#""2026-11-30" => same
+"2024-02-29" => same
+"0001-01-01" => same
+"-000044-03-15" => same
+"\u0032026-11-30" => "2026-11-30"
+"2026-02-29"
+"2026-13-01"
+"2026-11-31"
+"30.11.2026"
+""
+20261130
+null"#;
+
+// RFC 4648, section 10; without its padding, and with bits behind the last byte, a text is none.
+const BLOBS: &str = r#""" => same
+"Zg==" => same
+"Zm8=" => same
+"Zm9v" => same
+"Zm9vYg==" => same
+"Zm9vYmE=" => same
+"Zm9vYmFy" => same
+"\u005Ag==" => "Zg=="
+"Zg"
+"Zg="
+"Zh=="
+"Zm9v\n"
+"Zm-v"
+[102]
+null"#;
+
+const UPLOADS: &str = r#"{"content":"Zm9v","day":"2026-11-30"} => same
+{"day":"2026-11-30","content":""} => {"content":"","day":"2026-11-30"}
+{"content":"Zm9v","day":"2026-11-32"}
+{"content":"Zm9v"}"#;
+
+#[test]
+fn days_and_bytes_are_read_and_written(rt: HostRuntime) -> std::result::Result<(), Wrong> {
+    expect_read_itself::<Day>(rt.alloc(), DAYS)?;
+    expect_read_itself::<Blob>(rt.alloc(), BLOBS)?;
+    expect_read_itself::<Upload>(rt.alloc(), UPLOADS)
 }
