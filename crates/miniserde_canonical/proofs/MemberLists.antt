@@ -13,6 +13,7 @@ use Rattle.std.proofs.lemmas.Slice.Eq.{bytes_eq-Decides}
 use Rattle.std.proofs.lemmas.List.{drop_all}
 use Rattle.miniserde_model.specs.Tree.{Tree, str, Members, no_members, member}
 use Rattle.miniserde_model.specs.Normal.{text_cmp, norm_neg, norm, norm_members, or_else, last_of, BeginsAbove, Rise}
+use Rattle.miniserde_model.proofs.Lookups.{or_else_none}
 use Rattle.miniserde_model.proofs.OneNormal.{norm_only}
 use Rattle.miniserde_canonical.specs.declared.member.Member.{Member}
 use Rattle.miniserde_canonical.specs.private.MemberNames.{name_of}
@@ -220,10 +221,6 @@ ties_same n x e = go (text_cmp (n x) (n e)) refl
     go Equal h = ap₂ (λ (a b : Ordering). not (is_lt a) && not (is_lt b)) h (turned Equal h)
         ∙ sym ((bytes_eq-Decides (n e) (n x)).1 (sym (exact_bytes (n x) (n e) h)))
     go Greater h = ap₂ (λ (a b : Ordering). not (is_lt a) && not (is_lt b)) h (turned Greater h) ∙ sym (apart Greater h (λ f. cc))
-
-or_else_none : (a : Option Tree) → or_else a None ≡ a
-or_else_none None = refl
-or_else_none (Some t) = refl
 
 last_filtered : {X : Type 0} (n : X → List ℕ) (r : X → Tree) (x : X) (ms : List X)
     → last_of (n x) (named_members n r (filter (ties (below n) x) ms)) ≡ last_of (n x) (named_members n r ms)

@@ -8,10 +8,11 @@ use Rattle.std.proofs.lemmas.Map.Lookups.{exact_bytes}
 use Rattle.std.proofs.lemmas.Slice.Eq.{bytes_eq-Decides}
 use Rattle.std.proofs.lemmas.Bool.{eq-eqb}
 use Rattle.std.proofs.lemmas.Bool.Decides.{nat_tests}
+use Rattle.std.specs.Ordering.{match_ordering}
 use Rattle.miniserde_model.specs.Tree.{Tree, Members, no_members, member}
-use Rattle.miniserde_model.specs.Normal.{text_cmp, with_if_absent_by, with_if_absent, norm_neg, norm, norm_members, or_else, last_of, Rise}
+use Rattle.miniserde_model.specs.Normal.{text_cmp, with_if_absent, norm_neg, norm, norm_members, or_else, last_of, Rise}
 use Rattle.miniserde_model.specs.Distinct.{has_name, names_distinct, names_distinct_in_members}
-use Rattle.miniserde_model.proofs.Lookups.{norm_keeps_last, norm_rises}
+use Rattle.miniserde_model.proofs.Lookups.{norm_keeps_last, norm_rises, or_else_none}
 use Rattle.miniserde_model.proofs.OneNormal.{absent}
 use Rattle.miniserde_canonical.specs.private.States.{count}
 
@@ -20,10 +21,6 @@ use Rattle.miniserde_canonical.specs.private.States.{count}
 none_there : (a b : Option Tree) → or_else a b ≡ None → (a ≡ None) × (b ≡ None)
 none_there None b e = (refl, e)
 none_there (Some t) b e = absurd (cc)
-
-or_none : (a : Option Tree) → or_else a None ≡ a
-or_none None = refl
-or_none (Some t) = refl
 
 unlike : (n other : List ℕ) → text_cmp n other ≡ Greater → bytes_eq other n ≡ false
 unlike n other g = go (bytes_eq other n) refl
@@ -41,13 +38,14 @@ first_there n t no_members r h = absurd (true≢false (sym h))
 first_there n t (member other u ms) r h = go (text_cmp n other) refl (first_there n t ms r.1)
   where
     go : (o : Ordering) → text_cmp n other ≡ o → (has_name n ms ≡ true → count (with_if_absent n t ms) ≡ count ms)
-        → count (with_if_absent_by o n t other u ms (with_if_absent n t ms)) ≡ count (member other u ms)
+        → count (match_ordering o (member n t (member other u ms)) (member other u ms) (member other u
+        (with_if_absent n t ms))) ≡ count (member other u ms)
     go Less s more = absurd (true≢false (sym h ∙ ap is_some (absent n (member other u ms) s r)))
     go Equal s more = refl
     go Greater s more =
         let there : has_name n ms ≡ true =
         sym (ap is_some (ap (λ (b : Bool). or_else (last_of n ms) (cond b (Some u) None)) (unlike n other s)
-        ∙ or_none (last_of n ms))) ∙ h in
+        ∙ or_else_none (last_of n ms))) ∙ h in
         ap suc (more there)
 
 first_new : (n : List ℕ) (t : Tree) (ms : Members) → last_of n ms ≡ None → count (with_if_absent n t ms) ≡ suc (count ms)
@@ -55,7 +53,8 @@ first_new n t no_members e = refl
 first_new n t (member other u ms) e = go (text_cmp n other) refl (first_new n t ms (none_there (last_of n ms) _ e).0)
   where
     go : (o : Ordering) → text_cmp n other ≡ o → count (with_if_absent n t ms) ≡ suc (count ms)
-        → count (with_if_absent_by o n t other u ms (with_if_absent n t ms)) ≡ suc (count (member other u ms))
+        → count (match_ordering o (member n t (member other u ms)) (member other u ms) (member other u (with_if_absent n t ms))) ≡ suc
+        (count (member other u ms))
     go Less s more = refl
     go Equal s more =
         let same : bytes_eq other n ≡ true = (bytes_eq-Decides other n).1 (sym (exact_bytes n other s)) in

@@ -6,16 +6,18 @@ use Rattle.std.proofs.Common.{Equal, Greater, inl, inr, length-append}
 use Rattle.std.proofs.Math.Bool.{and-true, and_assoc}
 use Rattle.std.proofs.Math.Seq.{take-append_seam, drop-append_seam}
 use Rattle.std.proofs.lemmas.Bool.{eq-eqb}
+use Rattle.std.specs.Ordering.{match_ordering}
 use Rattle.miniserde_model.specs.Tree.{Tree, null, truth, nonneg, neg, num, str, list, members, Trees, no_trees}
 use Rattle.miniserde_model.specs.Tree.{tree, Members, no_members, member}
 use Rattle.miniserde_model.specs.Compact.{compact, compact_children, compact_more, compact_members, compact_more_members, string_text}
 use Rattle.miniserde_model.specs.Distinct.{names_distinct, names_distinct_in_children, names_distinct_in_members}
-use Rattle.miniserde_model.specs.Normal.{norm, norm_children, norm_members, with_if_absent, with_if_absent_by, text_cmp, BeginsAbove, Rise}
+use Rattle.miniserde_model.specs.Normal.{norm, norm_children, norm_members, with_if_absent, text_cmp, BeginsAbove, Rise}
 use Rattle.miniserde_canonical.specs.CanonicalToken.{CanonicalToken, leaf, name, array_end, object, object_end}
 use Rattle.miniserde_canonical.specs.CanonicalToken.{tokens, child_tokens, member_tokens}
 use Rattle.miniserde_canonical.specs.private.States.{comma_before, MemberEntry, State, initial_state, text_before}
 use Rattle.miniserde_canonical.specs.private.States.{entry_members, joined_texts, entries_text, count, once_each}
 use Rattle.miniserde_canonical.specs.private.States.{Arranged, Closes, TokenStep, TokenSteps}
+use Rattle.miniserde_model.proofs.Lookups.{first_of_all}
 use Rattle.miniserde_canonical.proofs.Repeats.{nested_names_distinct, distinct_counted}
 
 -- ---- runs
@@ -159,22 +161,18 @@ rows_rise : (ms : Members) → Rise (rows_of ms) → Rise ms
 rows_rise no_members r = tt
 rows_rise (member n t ms) r = (rows_above n ms r.0, rows_rise ms r.1)
 
-first_above : (n : List ℕ) (t : Tree) (ms : Members) → BeginsAbove n ms → with_if_absent n t ms ≡ member n t ms
-first_above n t no_members b = refl
-first_above n t (member m u ms) b = ap (λ o. with_if_absent_by o n t m u ms (with_if_absent n t ms)) b
-
 rise_norm : (ms : Members) → Rise (mapped ms) → norm_members ms ≡ mapped ms
 rise_norm no_members r = refl
-rise_norm (member n t ms) r = ap (with_if_absent n (norm t)) (rise_norm ms r.1) ∙ first_above n (norm t) (mapped ms) r.0
+rise_norm (member n t ms) r = ap (with_if_absent n (norm t)) (rise_norm ms r.1) ∙ first_of_all n (norm t) (mapped ms) r.0
 
 rows_first : (n : List ℕ) (t : Tree) (ms : Members) → with_if_absent n (str (row n t)) (rows_of ms) ≡ rows_of (with_if_absent n t ms)
 rows_first n t no_members = refl
 rows_first n t (member m u ms) = go (text_cmp n m) (rows_first n t ms)
   where
     go : (o : Ordering) → with_if_absent n (str (row n t)) (rows_of ms) ≡ rows_of (with_if_absent n t ms)
-        → with_if_absent_by o n (str (row n t)) m (str (row m u)) (rows_of ms)
-        (with_if_absent n (str (row n t)) (rows_of ms))
-        ≡ rows_of (with_if_absent_by o n t m u ms (with_if_absent n t ms))
+        → match_ordering o (member n (str (row n t)) (member m (str (row m u)) (rows_of ms))) (member m (str (row m u)) (rows_of ms))
+        (member m (str (row m u)) (with_if_absent n (str (row n t)) (rows_of ms)))
+        ≡ rows_of (match_ordering o (member n t (member m u ms)) (member m u ms) (member m u (with_if_absent n t ms)))
     go Less e = refl
     go Equal e = refl
     go Greater e = ap (λ z. member m (str (row m u)) z) e

@@ -9,8 +9,9 @@ use Rattle.std.specs.List.{AllByRecursion, IsDistinct}
 use Rattle.std.proofs.lemmas.Option.{same_Some}
 use Rattle.std.proofs.lemmas.List.Elements.{All-contains, All-from_recursion}
 use Rattle.std.proofs.lemmas.Map.Lookups.{exact_bytes}
+use Rattle.std.specs.Ordering.{match_ordering}
 use Rattle.miniserde_model.specs.Tree.{Tree, Members, no_members, member}
-use Rattle.miniserde_model.specs.Normal.{text_cmp, with_if_absent_by, with_if_absent, last_of}
+use Rattle.miniserde_model.specs.Normal.{text_cmp, with_if_absent, last_of}
 use Rattle.miniserde_keys.specs.Keys.{Key}
 use Rattle.miniserde_read.specs.types.Objects.{Name}
 use Rattle.miniserde_read.specs.types.Maps.{key_at, first_and_last, first_and_last_at, AllAccepted, entry_at}
@@ -56,7 +57,8 @@ module _ {C : Type 0} (read : Name → Option Key) (code : Key → Key) (of : Tr
       → AllAccepted read of (with_if_absent n t ms)
   taken_first n t no_members r g h = (r, (g, tt))
   taken_first n t (member o u ms) r g h =
-      elim (text_cmp n o) as (λ c. AllAccepted read of (with_if_absent_by c n t o u ms (with_if_absent n t ms))) [
+      elim (text_cmp n o) as (λ c. AllAccepted read of (match_ordering c (member n t (member o u ms)) (member o u ms) (member o u
+      (with_if_absent n t ms)))) [
         | Less ↦ (r, (g, h))
         | Equal ↦ h
         | Greater ↦ (h.0, (h.1.0, taken_first n t ms r g h.1.1))
@@ -72,7 +74,8 @@ module _ {C : Type 0} (read : Name → Option Key) (code : Key → Key) (of : Tr
   met_other q n t no_members k = rw k refl
   met_other q n t (member o u ms) k =
       elim (text_cmp n o) as (λ c.
-      first_and_last_at read code q (with_if_absent_by c n t o u ms (with_if_absent n t ms)) ≡ first_and_last_at
+      first_and_last_at read code q (match_ordering c (member n t (member o u ms)) (member o u ms) (member o u
+      (with_if_absent n t ms))) ≡ first_and_last_at
       read code q (member o u ms)) [
         | Less ↦ rw k refl
         | Equal ↦ refl
@@ -93,7 +96,8 @@ module _ {C : Type 0} (read : Name → Option Key) (code : Key → Key) (of : Tr
   met_first q n t c (member o u ms) k m =
       let none = met_none (key_at code q (read o)) u (first_and_last_at read code q ms) m in
       elim (text_cmp n o) as (λ r. text_cmp n o ≡ r
-      → first_and_last_at read code q (with_if_absent_by r n t o u ms (with_if_absent n t ms)) ≡ Some (c, t)) [
+      → first_and_last_at read code q (match_ordering r (member n t (member o u ms)) (member o u ms) (member o u
+      (with_if_absent n t ms))) ≡ Some (c, t)) [
         | Less ↦ λ r. ap (first_and_last (key_at code q (read n)) t) m ∙ ap (λ z. first_and_last z t None) k
         | Equal ↦ λ r. let s : n ≡ o = exact_bytes n o r in absurd (cc (sym k ∙ ap (λ z. key_at code q (read z)) s ∙ none.0))
         | Greater ↦ λ r. rw (none.0) (met_first q n t c ms k none.1)

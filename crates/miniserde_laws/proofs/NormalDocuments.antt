@@ -8,8 +8,9 @@ use Rattle.std.specs.declared.alloc.Global.{Global}
 use Rattle.std.specs.declared.cmp.Ordering.TheVariants.{Less, Equal, Greater}
 use Rattle.std.proofs.lemmas.List.{with_items_is}
 use Rattle.std_collections.specs.Layout.BTreeMap.{with_entries}
+use Rattle.std.specs.Ordering.{match_ordering}
 use Rattle.miniserde_model.specs.Tree.{Tree, list, members, tree, Members, member}
-use Rattle.miniserde_model.specs.Normal.{text_cmp, with_if_absent_by, with_if_absent, norm, norm_children, norm_members}
+use Rattle.miniserde_model.specs.Normal.{text_cmp, with_if_absent, norm, norm_children, norm_members}
 use Rattle.miniserde_model.proofs.Distinct.{norm_distinct}
 use Rattle.miniserde_model.proofs.Normal.{norm_twice}
 use Rattle.miniserde_ser.specs.Trees.{trees_of, members_of}
@@ -71,8 +72,8 @@ placed_entry : (e : String Global × Value) (es : Entries) → (fs : Entries)
 placed_entry e [] = (e ∷ [], refl)
 placed_entry e (g ∷ es) =
     elim (text_cmp (string_bytes e.0) (string_bytes g.0))
-    as (λ o. (fs : Entries) × (shown fs ≡ with_if_absent_by o (string_bytes e.0) (content_of e.1) (string_bytes g.0)
-    (content_of g.1) (shown es) (with_if_absent (string_bytes e.0) (content_of e.1) (shown es)))) [
+    as (λ o. (fs : Entries) × (shown fs ≡ match_ordering o (shown (e ∷ g ∷ es)) (shown (g ∷ es))
+    (member (string_bytes g.0) (content_of g.1) (with_if_absent (string_bytes e.0) (content_of e.1) (shown es))))) [
       | Less ↦ (e ∷ g ∷ es, refl)
       | Equal ↦ (g ∷ es, refl)
       | Greater ↦ let r = placed_entry e es in (g ∷ r.0, ap (member (string_bytes g.0) (content_of g.1)) r.1)

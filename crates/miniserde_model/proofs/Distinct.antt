@@ -6,9 +6,10 @@ use Rattle.std.proofs.Common.{bytes_eq, cond, is_some, refl, sym, ap, ap₂, ◌
 use Rattle.std.proofs.Common.{Greater, true≢false}
 use Rattle.std.specs.Prelude.{not, ◌&&◌}
 use Rattle.std.proofs.lemmas.Map.Lookups.{exact_bytes}
+use Rattle.std.specs.Ordering.{match_ordering}
 use Rattle.miniserde_model.specs.Tree.{Tree, null, truth, nonneg, neg, num, str, list, members, Trees, no_trees}
 use Rattle.miniserde_model.specs.Tree.{tree, Members, no_members, member}
-use Rattle.miniserde_model.specs.Normal.{text_cmp, with_if_absent_by, with_if_absent, norm_neg, norm, norm_children}
+use Rattle.miniserde_model.specs.Normal.{text_cmp, with_if_absent, norm_neg, norm, norm_children}
 use Rattle.miniserde_model.specs.Normal.{norm_members, or_else, last_of, Rise}
 use Rattle.miniserde_model.specs.Size.{size, size_of_children, size_of_members}
 use Rattle.miniserde_model.specs.Distinct.{has_name, names_distinct, names_distinct_in_children, names_distinct_in_members}
@@ -41,7 +42,8 @@ each_with_first name t no_members d e = both (names_distinct t) true d refl
 each_with_first name t (member other u ms) d e = go (text_cmp name other) (each_with_first name t ms d (second_of (names_distinct u) _ e))
   where
     go : (o : Ordering) → each_distinct (with_if_absent name t ms) ≡ true
-        → each_distinct (with_if_absent_by o name t other u ms (with_if_absent name t ms)) ≡ true
+        → each_distinct (match_ordering o (member name t (member other u ms)) (member other u ms) (member other u
+        (with_if_absent name t ms))) ≡ true
     go Less more = both (names_distinct t) _ d e
     go Equal more = e
     go Greater more = both (names_distinct u) _ (first_of (names_distinct u) _ e) more
@@ -91,7 +93,8 @@ size_with_first name t (member other u ms) e =
   where
     go : (o : Ordering) → text_cmp name other ≡ o → size_of_members (with_if_absent name t ms)
         ≡ size t + size_of_members ms
-        → size_of_members (with_if_absent_by o name t other u ms (with_if_absent name t ms))
+        → size_of_members (match_ordering o (member name t (member other u ms)) (member other u ms) (member other u
+        (with_if_absent name t ms)))
         ≡ size t + (size u + size_of_members ms)
     go Less s more = refl
     go Equal s more =

@@ -3,18 +3,24 @@
 -- name.
 use Rattle.std.proofs.Common.{◌≡◌, ℕ, ℤ, Bool, true, false, List, Option, Some, None, option_map, bytes_eq, cond}
 use Rattle.std.proofs.Common.{refl, sym, ap, ◌∙◌, Ordering, Less, Equal, Greater, true≢false}
-use Rattle.std.specs.Ordering.{ordering_reverse, is_eq}
+use Rattle.std.specs.Ordering.{match_ordering, ordering_reverse, is_eq}
 use Rattle.std.proofs.lemmas.Cmp.{nat_list_cmp_total, tied_itself}
 use Rattle.std.proofs.lemmas.Map.Lookups.{exact_bytes}
 use Rattle.std.proofs.lemmas.Slice.Eq.{bytes_eq-Decides}
 use Rattle.miniserde_model.specs.Tree.{Tree, Members, no_members, member}
-use Rattle.miniserde_model.specs.Normal.{text_cmp, with_if_absent_by, with_if_absent, norm_by, norm_members_by}
+use Rattle.miniserde_model.specs.Normal.{text_cmp, insert_with, with_if_absent, norm_by, norm_members_by}
 use Rattle.miniserde_model.specs.Normal.{or_else, last_of, BeginsAbove, Rise}
 
 abbrev if_same : List ℕ → List ℕ → Tree → Option Tree
 if_same name q t = cond (bytes_eq name q) (Some t) None
 
-or_else_assoc : (a b c : Option Tree) → or_else (or_else a b) c ≡ or_else a (or_else b c)
+-- `or_else` without a second tree is the first one
+pub or_else_none : (a : Option Tree) → or_else a None ≡ a
+or_else_none None = refl
+or_else_none (Some t) = refl
+
+-- `or_else` is associative
+pub or_else_assoc : (a b c : Option Tree) → or_else (or_else a b) c ≡ or_else a (or_else b c)
 or_else_assoc None b c = refl
 or_else_assoc (Some t) b c = refl
 
@@ -53,7 +59,8 @@ last_with_first q name t no_members = refl
 last_with_first q name t (member other u ms) = go (text_cmp name other) refl (last_with_first q name t ms)
   where
     go : (o : Ordering) → text_cmp name other ≡ o → last_of q (with_if_absent name t ms) ≡ or_else (last_of q ms)
-        (if_same name q t) → last_of q (with_if_absent_by o name t other u ms (with_if_absent name t ms))
+        (if_same name q t) → last_of q (match_ordering o (member name t (member other u ms)) (member other u ms) (member other u
+        (with_if_absent name t ms)))
         ≡ or_else (or_else (last_of q ms) (if_same other q u)) (if_same name q t)
     go Less e more = refl
     go Equal e more =
@@ -82,28 +89,36 @@ norm_keeps_last f q (member name t ms) = last_with_first q name (norm_by f t) (n
 greater_less : (a b : List ℕ) → text_cmp a b ≡ Greater → text_cmp b a ≡ Less
 greater_less a b e = nat_list_cmp_total.antisymm b a ∙ ap ordering_reverse e
 
-above_with_first : (first name : List ℕ) (t : Tree) (ms : Members) → text_cmp first name ≡ Less
-    → BeginsAbove first ms → BeginsAbove first (with_if_absent name t ms)
-above_with_first first name t no_members p q = p
-above_with_first first name t (member other u ms) p q = go (text_cmp name other)
+above_insert : (choose : Tree → Tree → Tree) (first name : List ℕ) (t : Tree) (ms : Members) → text_cmp first name ≡ Less
+    → BeginsAbove first ms → BeginsAbove first (insert_with choose name t ms)
+above_insert choose first name t no_members p q = p
+above_insert choose first name t (member other u ms) p q = go (text_cmp name other)
   where
-    go : (o : Ordering) → BeginsAbove first (with_if_absent_by o name t other u ms (with_if_absent name t ms))
+    go : (o : Ordering) → BeginsAbove first (match_ordering o (member name t (member other u ms)) (member other (choose t u) ms)
+        (member other u (insert_with choose name t ms)))
     go Less = p
     go Equal = q
     go Greater = q
 
--- if the names of members rise, they rise after `with_if_absent`, too
-pub rise_with_first : (name : List ℕ) (t : Tree) (ms : Members) → Rise ms → Rise (with_if_absent name t ms)
-rise_with_first name t no_members h = (tt, tt)
-rise_with_first name t (member other u ms) h = go (text_cmp name other) refl (rise_with_first name t ms h.1)
+-- if the names of members rise, they rise after `insert_with`, too
+pub rise_insert : (choose : Tree → Tree → Tree) (name : List ℕ) (t : Tree) (ms : Members) → Rise ms → Rise (insert_with choose name t ms)
+rise_insert choose name t no_members h = (tt, tt)
+rise_insert choose name t (member other u ms) h = go (text_cmp name other) refl (rise_insert choose name t ms h.1)
   where
-    go : (o : Ordering) → text_cmp name other ≡ o → Rise (with_if_absent name t ms)
-        → Rise (with_if_absent_by o name t other u ms (with_if_absent name t ms))
+    go : (o : Ordering) → text_cmp name other ≡ o → Rise (insert_with choose name t ms)
+        → Rise (match_ordering o (member name t (member other u ms)) (member other (choose t u) ms)
+        (member other u (insert_with choose name t ms)))
     go Less e m = (e, h)
     go Equal e m = h
-    go Greater e m = (above_with_first other name t ms (greater_less name other e) h.0, m)
+    go Greater e m = (above_insert choose other name t ms (greater_less name other e) h.0, m)
+
+-- a name below all others is put in front
+pub first_of_all : (name : List ℕ) (t : Tree) (ms : Members) → BeginsAbove name ms → with_if_absent name t ms ≡ member name t ms
+first_of_all name t no_members b = refl
+first_of_all name t (member other u ms) b =
+    ap (λ o. match_ordering o (member name t (member other u ms)) (member other u ms) (member other u (with_if_absent name t ms))) b
 
 -- the names in the normal form of members by f rise
 pub norm_rises : (f : ℤ → Tree) (ms : Members) → Rise (norm_members_by f ms)
 norm_rises f no_members = tt
-norm_rises f (member name t ms) = rise_with_first name (norm_by f t) (norm_members_by f ms) (norm_rises f ms)
+norm_rises f (member name t ms) = rise_insert (λ t u. u) name (norm_by f t) (norm_members_by f ms) (norm_rises f ms)

@@ -4,10 +4,11 @@
 use Rattle.std.proofs.Common.{◌≡◌, ℕ, ◌^◌, ◌≤◌, ℤ, pos, negsuc, unsigned_abs, ◌≤ℤ◌, List, IsUtf8, option_map, refl}
 use Rattle.std.proofs.Common.{sym, ap, ap₂, ◌∙◌, arith, Ordering, Less, Equal, Greater}
 use Rattle.std.proofs.lemmas.Int.{ints}
+use Rattle.std.specs.Ordering.{match_ordering}
 use Rattle.miniserde_model.specs.Tree.{Tree, null, truth, nonneg, neg, num, str, list, members, Trees, no_trees}
 use Rattle.miniserde_model.specs.Tree.{tree, Members, no_members, member}
 use Rattle.miniserde_model.specs.InRange.{InRange, AllInRange, MembersInRange}
-use Rattle.miniserde_model.specs.Normal.{text_cmp, with_if_absent_by, with_if_absent, norm_neg, norm_by}
+use Rattle.miniserde_model.specs.Normal.{text_cmp, with_if_absent, norm_neg, norm_by}
 use Rattle.miniserde_model.specs.Normal.{norm_children_by, norm_members_by, norm, norm_children, norm_members}
 use Rattle.miniserde_model.proofs.Lookups.{last_with_first, norm_keeps_last, norm_rises}
 use Rattle.miniserde_model.proofs.OneNormal.{one_rising}
@@ -52,7 +53,7 @@ norm_twice = norm_after norm_neg norm_neg norm_neg neg_twice
 
 trees_placed : (o : Ordering) (name : List ℕ) (t : Tree) (other : List ℕ) (u : Tree) (ms more : Members)
     → IsUtf8 name → InRange t → MembersInRange (member other u ms) → MembersInRange more
-    → MembersInRange (with_if_absent_by o name t other u ms more)
+    → MembersInRange (match_ordering o (member name t (member other u ms)) (member other u ms) (member other u more))
 trees_placed Less name t other u ms more n h k m = (n, h, k)
 trees_placed Equal name t other u ms more n h k m = k
 trees_placed Greater name t other u ms more n h k m = (k.0, k.1, m)

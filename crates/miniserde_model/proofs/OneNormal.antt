@@ -3,15 +3,15 @@
 -- and the normal form ascend, and they have the same last tree at each name (`last_put_all`, `norm_keeps_last`).
 use Rattle.std.proofs.Common.{◌≡◌, ℕ, ℤ, Bool, true, false, List, Option, Some, None, option_map, bytes_eq, cond}
 use Rattle.std.proofs.Common.{is_some, refl, sym, ap, ap₂, subst, ◌∙◌, Ordering, Less, Equal, Greater, true≢false}
-use Rattle.std.specs.Ordering.{ordering_reverse, is_eq}
+use Rattle.std.specs.Ordering.{match_ordering, ordering_reverse, is_eq}
 use Rattle.std.proofs.lemmas.Bool.{false_from_ne_true}
 use Rattle.std.proofs.lemmas.Cmp.{nat_list_cmp_total, tied_itself}
 use Rattle.std.proofs.lemmas.Map.Lookups.{exact_bytes}
 use Rattle.std.proofs.lemmas.Slice.Eq.{bytes_eq-Decides}
 use Rattle.miniserde_model.specs.Tree.{Tree, Members, no_members, member}
 use Rattle.miniserde_model.specs.Normal.{text_cmp, norm_by, norm_members_by, or_else, last_of, BeginsAbove, Rise}
-use Rattle.miniserde_model.specs.Normal.{put_first_by, put, put_all_by}
-use Rattle.miniserde_model.proofs.Lookups.{norm_keeps_last, norm_rises, mapped}
+use Rattle.miniserde_model.specs.Normal.{put, put_all_by}
+use Rattle.miniserde_model.proofs.Lookups.{norm_keeps_last, norm_rises, mapped, or_else_none, or_else_assoc, rise_insert}
 
 not_same : (a b : List ℕ) → text_cmp a b ≡ Less → bytes_eq b a ≡ false
 not_same a b l = false_from_ne_true _ (λ e.
@@ -39,11 +39,6 @@ at_first name t ms b r = ap₂ (λ (x : Option Tree) (y : Bool). or_else x (cond
 
 none_some : (o : Option Tree) (t : Tree) → o ≡ None → o ≡ Some t → ⊥
 none_some o t p q = true≢false (ap is_some (sym q ∙ p))
-
--- `or_else` without a second tree is the first one
-pub or_else_none : (a : Option Tree) → or_else a None ≡ a
-or_else_none None = refl
-or_else_none (Some t) = refl
 
 abbrev Alike : Members → Members → Type 0
 Alike ms ns = (q : List ℕ) → last_of q ms ≡ last_of q ns
@@ -100,11 +95,6 @@ hidden true None t h = refl
 hidden true (Some v) t h = absurd (none_some _ v (h refl) refl)
 hidden false a t h = or_else_none a
 
--- `or_else` is associative
-pub or_else_assoc : (a b c : Option Tree) → or_else (or_else a b) c ≡ or_else a (or_else b c)
-or_else_assoc None b c = refl
-or_else_assoc (Some t) b c = refl
-
 above_itself : (name q : List ℕ) (ms : Members) → BeginsAbove name ms → Rise ms → bytes_eq name q ≡ true → last_of q ms ≡ None
 above_itself name q ms b r e = subst (λ z. last_of z ms ≡ None) ((bytes_eq-Decides name q).0 e) (absent name ms b r)
 
@@ -115,50 +105,28 @@ last_put q name t (member other u ms) r = go (text_cmp name other) refl (last_pu
   where
     go : (o : Ordering) → text_cmp name other ≡ o
         → last_of q (put name t ms) ≡ or_else (cond (bytes_eq name q) (Some t) None) (last_of q ms)
-        → last_of q (put_first_by o name t other u ms (put name t ms))
+        → last_of q (match_ordering o (member name t (member other u ms)) (member other t ms) (member other u (put name t ms)))
         ≡ or_else (cond (bytes_eq name q) (Some t) None) (last_of q (member other u ms))
     go Less e more = hidden (bytes_eq name q) (last_of q (member other u ms)) t (λ f. above_itself name q (member other u ms) e r f)
     go Equal e more =
         let same : name ≡ other = exact_bytes name other e in
-        first_hides (bytes_eq name q) (last_of q ms) u t
-        (λ f. above_itself name q ms (subst (λ z. BeginsAbove z ms) (sym same) r.0) r.1 f)
-        ∙ ap (λ z. or_else (cond (bytes_eq name q) (Some t) None)
-        (or_else (last_of q ms) (cond (bytes_eq z q) (Some u) None))) same
+        first_hides (bytes_eq other q) (last_of q ms) u t (above_itself other q ms r.0 r.1)
+        ∙ ap (λ z. or_else (cond (bytes_eq z q) (Some t) None)
+        (or_else (last_of q ms) (cond (bytes_eq other q) (Some u) None))) (sym same)
     go Greater e more = ap (λ z. or_else z (cond (bytes_eq other q) (Some u) None)) more
         ∙ or_else_assoc (cond (bytes_eq name q) (Some t) None) (last_of q ms)
         (cond (bytes_eq other q) (Some u) None)
 
-greater_less : (a b : List ℕ) → text_cmp a b ≡ Greater → text_cmp b a ≡ Less
-greater_less a b e = nat_list_cmp_total.antisymm b a ∙ ap ordering_reverse e
-
-above_put : (first name : List ℕ) (t : Tree) (ms : Members) → text_cmp first name ≡ Less → BeginsAbove first ms
-    → BeginsAbove first (put name t ms)
-above_put first name t no_members p q = p
-above_put first name t (member other u ms) p q = go (text_cmp name other)
-  where
-    go : (o : Ordering) → BeginsAbove first (put_first_by o name t other u ms (put name t ms))
-    go Less = p
-    go Equal = p
-    go Greater = q
-
-pub rise_put : (name : List ℕ) (t : Tree) (ms : Members) → Rise ms → Rise (put name t ms)
-rise_put name t no_members h = (tt, tt)
-rise_put name t (member other u ms) h = go (text_cmp name other) refl (rise_put name t ms h.1)
-  where
-    go : (o : Ordering) → text_cmp name other ≡ o → Rise (put name t ms) → Rise (put_first_by o name t other u ms (put name t ms))
-    go Less e m = (e, h)
-    go Equal e m = (subst (λ z. BeginsAbove z ms) (sym (exact_bytes name other e)) h.0, h.1)
-    go Greater e m = (above_put other name t ms (greater_less name other e) h.0, m)
-
 rise_put_all : (f : ℤ → Tree) (made ms : Members) → Rise made → Rise (put_all_by f made ms)
 rise_put_all f made no_members h = h
-rise_put_all f made (member name t ms) h = rise_put_all f (put name (norm_by f t) made) ms (rise_put name (norm_by f t) made h)
+rise_put_all f made (member name t ms) h =
+    rise_put_all f (put name (norm_by f t) made) ms (rise_insert (λ t u. t) name (norm_by f t) made h)
 
 last_put_all : (f : ℤ → Tree) (q : List ℕ) (made ms : Members) → Rise made
     → last_of q (put_all_by f made ms) ≡ or_else (option_map (norm_by f) (last_of q ms)) (last_of q made)
 last_put_all f q made no_members h = refl
 last_put_all f q made (member name t ms) h =
-    last_put_all f q (put name (norm_by f t) made) ms (rise_put name (norm_by f t) made h)
+    last_put_all f q (put name (norm_by f t) made) ms (rise_insert (λ t u. t) name (norm_by f t) made h)
     ∙ ap (or_else (option_map (norm_by f) (last_of q ms))) (last_put q name (norm_by f t) made h)
     ∙ sym (or_else_assoc (option_map (norm_by f) (last_of q ms)) (cond (bytes_eq name q) (Some (norm_by f t)) None) (last_of q made))
     ∙ ap (λ z. or_else z (last_of q made)) (mapped f (last_of q ms) (bytes_eq name q) t)

@@ -13,6 +13,7 @@ use Rattle.std.proofs.lemmas.Fmt.{decimal-digits_value}
 use Rattle.std.proofs.lemmas.List.Concat.{flat_map-append}
 use Rattle.std.proofs.lemmas.Str.{encode_ascii, length-encode, len_utf8_bounds}
 use Rattle.std.proofs.lemmas.Str.Parse.{IsNumeralModel, numerals_by_value}
+use Rattle.std.specs.Ordering.{match_ordering}
 use Rattle.miniserde_model.specs.Tree.{Tree, null, truth, nonneg, neg, num, str, list, members, Trees, no_trees}
 use Rattle.miniserde_model.specs.Tree.{tree, Members, no_members, member}
 use Rattle.miniserde_model.specs.Number.{IsDigit, IsInt, IsFraction, IsExponent, IsNumberText, IsNumber, is_plain, begins_minus}
@@ -22,7 +23,7 @@ use Rattle.miniserde_model.specs.String.{ArePieces, IsString}
 use Rattle.miniserde_model.specs.Value.{Spaced, Named, Then, IsValue, AreElements, AreMoreElements, AreMembers, AreMoreMembers, IsJson}
 use Rattle.miniserde_model.specs.Compact.{escape_text, string_text, compact, compact_children, compact_more}
 use Rattle.miniserde_model.specs.Compact.{compact_members, compact_more_members}
-use Rattle.miniserde_model.specs.Normal.{text_cmp, with_if_absent_by, with_if_absent, norm_neg, norm, norm_children, norm_members}
+use Rattle.miniserde_model.specs.Normal.{text_cmp, with_if_absent, norm_neg, norm, norm_children, norm_members}
 use Rattle.miniserde_model.proofs.Accepted.{tells}
 use Rattle.miniserde_model.proofs.Written.{raw_text, high_stays, low_stays}
 
@@ -302,7 +303,8 @@ unfolding counted
 counted_first s t ms = omega arith
 
 counted_placed : (o : Ordering) (s : List ℕ) (t : Tree) (r : List ℕ) (u : Tree) (ms more : Members)
-    → counted more ≤ counted (member s t ms) → counted (with_if_absent_by o s t r u ms more) ≤ counted
+    → counted more ≤ counted (member s t ms) → counted (match_ordering o (member s t (member r u ms)) (member r u ms)
+    (member r u more)) ≤ counted
     (member s t (member r u ms))
 counted_placed Less s t r u ms more h = omega arith
 counted_placed Equal s t r u ms more h = omega (arith, counted_cons s t (member r u ms))
@@ -318,7 +320,7 @@ is_some_member no_members = false
 is_some_member (member s t ms) = true
 
 some_placed : (o : Ordering) (s : List ℕ) (t : Tree) (r : List ℕ) (u : Tree) (ms more : Members)
-    → is_some_member (with_if_absent_by o s t r u ms more) ≡ true
+    → is_some_member (match_ordering o (member s t (member r u ms)) (member r u ms) (member r u more)) ≡ true
 some_placed Less s t r u ms more = refl
 some_placed Equal s t r u ms more = refl
 some_placed Greater s t r u ms more = refl

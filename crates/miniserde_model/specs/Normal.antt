@@ -1,27 +1,29 @@
 -- The normal form of a tree, in which an object's names are unique and in byte order (RFC 8259, section 4).
 use Rattle.std.specs.Prelude.{◌≡◌, ℕ, ℤ, pos, negsuc, List, Option, Some, None, bytes_eq, if◌then◌else◌, ⊤, refl, codes}
-use Rattle.std.specs.Ordering.{nat_cmp}
+use Rattle.std.specs.Ordering.{nat_cmp, match_ordering}
 use Rattle.std.specs.Cmp.Lexicographic.{slice_cmp}
 use Rattle.std.specs.declared.cmp.Ordering.{Ordering}
-use Rattle.std.specs.declared.cmp.Ordering.TheVariants.{Less, Equal, Greater}
+use Rattle.std.specs.declared.cmp.Ordering.TheVariants.{Less}
 use Rattle.miniserde_model.specs.Tree.{Tree, nonneg, neg, list, members, Trees, no_trees, tree, Members, no_members, member}
 
 -- the order of two texts by their bytes
 abbrev pub text_cmp : List ℕ → List ℕ → Ordering
 text_cmp = slice_cmp nat_cmp
 
--- One step of `with_if_absent`, which adds the tree t under `name`, for members of which the first has the name `other`
--- and the tree u and the later ones are ms. The first argument is the order of `name` and `other`, and `more` is the
--- result of `with_if_absent` for ms.
-abbrev pub with_if_absent_by : Ordering → List ℕ → Tree → List ℕ → Tree → Members → Members → Members
-with_if_absent_by Less name t other u ms more = member name t (member other u ms)
-with_if_absent_by Equal name t other u ms more = member other u ms
-with_if_absent_by Greater name t other u ms more = member other u more
+-- The sorted members with the tree t added under the name. If they have a tree u of that name, `choose t u` takes its
+-- place.
+abbrev pub insert_with : (Tree → Tree → Tree) → List ℕ → Tree → Members → Members
+insert_with choose name t no_members = member name t no_members
+insert_with choose name t (member other u ms) = match_ordering (text_cmp name other) (member name t (member other u ms))
+    (member other (choose t u) ms) (member other u (insert_with choose name t ms))
 
 -- the sorted members with the tree t added under the name, unless they have a member of that name
 abbrev pub with_if_absent : List ℕ → Tree → Members → Members
-with_if_absent name t no_members = member name t no_members
-with_if_absent name t (member other u ms) = with_if_absent_by (text_cmp name other) name t other u ms (with_if_absent name t ms)
+with_if_absent = insert_with (λ t u. u)
+
+-- the sorted members with the tree t added under the name; it replaces the tree of the same name
+abbrev pub put : List ℕ → Tree → Members → Members
+put = insert_with (λ t u. t)
 
 -- the leaf in a normal form of an integer that is written with a minus: `-0` becomes 0
 abbrev pub norm_neg : ℤ → Tree
@@ -82,19 +84,6 @@ Rise no_members = ⊤
 Rise (member name t ms) = BeginsAbove name ms × Rise ms
 
 -- ---- the normal form as a reader makes it, from the left
-
--- One step of `put`, which adds the tree t under `name`, for members of which the first has the name `other` and the
--- tree u and the later ones are ms. The first argument is the order of `name` and `other`, and `more` is the result of
--- `put` for ms.
-abbrev pub put_first_by : Ordering → List ℕ → Tree → List ℕ → Tree → Members → Members → Members
-put_first_by Less name t other u ms more = member name t (member other u ms)
-put_first_by Equal name t other u ms more = member name t ms
-put_first_by Greater name t other u ms more = member other u more
-
--- the sorted members with the tree t added under the name; it replaces the tree of the same name
-abbrev pub put : List ℕ → Tree → Members → Members
-put name t no_members = member name t no_members
-put name t (member other u ms) = put_first_by (text_cmp name other) name t other u ms (put name t ms)
 
 -- the members `made` with further members put in one by one, each with the normal form of its tree by f
 abbrev pub put_all_by : (ℤ → Tree) → Members → Members → Members

@@ -1,25 +1,20 @@
 -- Lists and objects in normal form: a list of trees in normal form is one (`normal_children-snoc` for a turn of a loop over
--- its elements), and so is an object of such trees whose names rise (`rising_is_normal`), whose members are in front of
--- the later ones (`with_first`).
+-- its elements), and so is an object of such trees whose names rise (`rising_is_normal`).
 use Rattle.std.proofs.Common.{◌≡◌, ℕ, List, [], ◌∷◌, ◌++◌, Option, Some, None, refl, sym, ap, ap₂, subst, ◌∙◌, Less, option_map}
 use Rattle.miniserde_model.specs.Tree.{Tree, Trees, tree, no_trees, Members, no_members, member}
-use Rattle.miniserde_model.specs.Normal.{text_cmp, norm, norm_children, norm_members, with_if_absent, with_if_absent_by}
-use Rattle.miniserde_model.specs.Normal.{BeginsAbove, Rise}
+use Rattle.miniserde_model.specs.Normal.{text_cmp, norm, norm_children, norm_members, with_if_absent, Rise}
+use Rattle.miniserde_model.proofs.Lookups.{first_of_all}
 use Rattle.miniserde_ser.specs.Trees.{trees_of, members_of, TreesAreNormal}
 
 -- the trees of a list are in normal form
 abbrev pub AreNormal : Trees → Type 0
 AreNormal ts = norm_children ts ≡ ts
 
-with_first : (name : List ℕ) (t : Tree) (ms : Members) → BeginsAbove name ms → with_if_absent name t ms ≡ member name t ms
-with_first name t no_members b = refl
-with_first name t (member other u ms) b = ap (λ o. with_if_absent_by o name t other u ms (with_if_absent name t ms)) b
-
 -- members in rising order of their names, with trees in normal form, are their own normal form
 pub rising_is_normal : (ms : Members) → Rise ms → TreesAreNormal ms → norm_members ms ≡ ms
 rising_is_normal no_members r n = refl
 rising_is_normal (member name t ms) r n =
-    ap₂ (with_if_absent name) n.0 (rising_is_normal ms r.1 n.1) ∙ with_first name t ms r.0
+    ap₂ (with_if_absent name) n.0 (rising_is_normal ms r.1 n.1) ∙ first_of_all name t ms r.0
 
 -- if the trees of xs and the tree of x are in normal form, so are the trees of xs with x appended
 pub normal_children-snoc : {A : Type 0} (f : A → Tree) (xs : List A) (x : A)

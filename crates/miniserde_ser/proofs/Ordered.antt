@@ -14,7 +14,7 @@ use Rattle.std.proofs.lemmas.Slice.Eq.{bytes_eq-Decides}
 use Rattle.miniserde_text.proofs.Equal.{bytes_eq-flips}
 use Rattle.miniserde_model.specs.Tree.{Tree, Members, no_members, member}
 use Rattle.miniserde_model.specs.Normal.{text_cmp, or_else, last_of, Rise}
-use Rattle.miniserde_model.proofs.Lookups.{last_with_first, rise_with_first}
+use Rattle.miniserde_model.proofs.Lookups.{last_with_first, rise_insert}
 use Rattle.miniserde_model.proofs.OneNormal.{one_rising}
 use Rattle.miniserde_ser.specs.Trees.{members_of, in_order}
 
@@ -22,7 +22,7 @@ use Rattle.miniserde_ser.specs.Trees.{members_of, in_order}
 
 pub rise_in_order : (ms : Members) → Rise (in_order ms)
 rise_in_order no_members = tt
-rise_in_order (member name t ms) = rise_with_first name t (in_order ms) (rise_in_order ms)
+rise_in_order (member name t ms) = rise_insert (λ t u. u) name t (in_order ms) (rise_in_order ms)
 
 last_in_order : (q : List ℕ) (ms : Members) → last_of q (in_order ms) ≡ last_of q ms
 last_in_order q no_members = refl

@@ -7,8 +7,9 @@ use Rattle.std.specs.Prelude.{IsSome, option_map, option_and_then, bytes_eq}
 use Rattle.std.specs.Option.{option_or}
 use Rattle.std.proofs.lemmas.Cmp.{nat_list_cmp_total}
 use Rattle.std.proofs.lemmas.Slice.Eq.{bytes_eq-Decides}
+use Rattle.std.specs.Ordering.{match_ordering}
 use Rattle.miniserde_model.specs.Tree.{Tree, Members, no_members, member}
-use Rattle.miniserde_model.specs.Normal.{text_cmp, with_if_absent_by, with_if_absent, norm_neg, norm, norm_members}
+use Rattle.miniserde_model.specs.Normal.{text_cmp, with_if_absent, norm_neg, norm, norm_members}
 use Rattle.miniserde_model.specs.Normal.{last_of, BeginsAbove, Rise}
 use Rattle.miniserde_model.proofs.Lookups.{norm_keeps_last, norm_rises}
 use Rattle.miniserde_model.proofs.OneNormal.{norm_only}
@@ -32,7 +33,8 @@ counted false c m n h = h
 count_first : (n k : Name) (t : Tree) (ms : Members) → count_named n (with_if_absent k t ms) ≤ count_named n (member k t ms)
 count_first n k t no_members = omega (arith)
 count_first n k t (member j u ms) =
-    elim (text_cmp k j) as (λ r. count_named n (with_if_absent_by r k t j u ms (with_if_absent k t ms))
+    elim (text_cmp k j) as (λ r. count_named n (match_ordering r (member k t (member j u ms)) (member j u ms) (member j u
+    (with_if_absent k t ms)))
     ≤ count_named n (member k t (member j u ms))) [
       | Less ↦ omega (arith)
       | Equal ↦ elim (bytes_eq k n)
@@ -53,7 +55,8 @@ module _ {C : Type 0} (of : Tree → Option C) (stable : IsStable of) (n : Name)
   named_first : (k : Name) (t : Tree) (ms : Members) → AllOfName of n (member k t ms) → AllOfName of n (with_if_absent k t ms)
   named_first k t no_members h = h
   named_first k t (member j u ms) h =
-      elim (text_cmp k j) as (λ r. AllOfName of n (with_if_absent_by r k t j u ms (with_if_absent k t ms))) [
+      elim (text_cmp k j) as (λ r. AllOfName of n (match_ordering r (member k t (member j u ms)) (member j u ms) (member j u
+      (with_if_absent k t ms)))) [
         | Less ↦ h
         | Equal ↦ h.1
         | Greater ↦ (h.1.0, named_first k t ms (h.0, h.1.1))

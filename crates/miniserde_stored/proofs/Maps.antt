@@ -3,13 +3,13 @@
 -- code (`met_first`) nor that all are accepted (`taken_first`).
 use Rattle.std.proofs.Common.{◌≡◌, true, false, cond, Option, Some, None, refl, sym, ap, subst, ◌∙◌, Less, Equal, Greater, true≢false}
 use Rattle.std.specs.Prelude.{IsSome, option_map, bytes_eq}
-use Rattle.std.specs.Ordering.{is_eq}
+use Rattle.std.specs.Ordering.{match_ordering, is_eq}
 use Rattle.std.proofs.lemmas.Cmp.{nat_list_cmp_total, tied_itself}
 use Rattle.std.proofs.lemmas.Option.{same_Some}
 use Rattle.std.proofs.lemmas.Map.Lookups.{exact_bytes}
 use Rattle.std.proofs.lemmas.Slice.Eq.{bytes_eq-Decides}
 use Rattle.miniserde_model.specs.Tree.{Tree, members, Members, no_members, member}
-use Rattle.miniserde_model.specs.Normal.{text_cmp, with_if_absent_by, with_if_absent, norm, norm_members}
+use Rattle.miniserde_model.specs.Normal.{text_cmp, with_if_absent, norm, norm_members}
 use Rattle.miniserde_keys.specs.Keys.{Key}
 use Rattle.miniserde_read.specs.types.Objects.{Name}
 use Rattle.miniserde_read.specs.types.Maps.{key_at, first_and_last, first_and_last_at, AllAccepted, MapContent, no_entries, map_of}
@@ -61,7 +61,8 @@ module _ {C : Type 0} (read : Name → Option Key) (code : Key → Key) (of : Tr
       → AllAccepted read of (with_if_absent n t ms)
   taken_first n t no_members r g h = (r, (g, tt))
   taken_first n t (member o u ms) r g h =
-      elim (text_cmp n o) as (λ c. AllAccepted read of (with_if_absent_by c n t o u ms (with_if_absent n t ms))) [
+      elim (text_cmp n o) as (λ c. AllAccepted read of (match_ordering c (member n t (member o u ms)) (member o u ms) (member o u
+      (with_if_absent n t ms)))) [
         | Less ↦ (r, (g, h))
         | Equal ↦ h
         | Greater ↦ (h.0, (h.1.0, taken_first n t ms r g h.1.1))
@@ -77,7 +78,8 @@ module _ (read : Name → Option Key) (code : Key → Key)
   met_first q n t no_members = refl
   met_first q n t (member o u ms) =
       elim (text_cmp n o) as (λ r. text_cmp n o ≡ r
-      → first_and_last_at read code q (with_if_absent_by r n t o u ms (with_if_absent n t ms)) ≡ first_and_last
+      → first_and_last_at read code q (match_ordering r (member n t (member o u ms)) (member o u ms) (member o u
+      (with_if_absent n t ms))) ≡ first_and_last
       (key_at code q (read n)) t (first_and_last (key_at code q (read o)) u (first_and_last_at read code q ms))) [
         | Less ↦ λ r. refl
         | Equal ↦ λ r.

@@ -12,13 +12,10 @@ use Rattle.std.specs.List.Sorted.{IsStrictlySortedBy}
 use Rattle.std.proofs.lemmas.Map.Keys.{sorted_head, sorted_tail}
 use Rattle.std.proofs.lemmas.Map.Lookups.{exact_bytes}
 use Rattle.miniserde_model.specs.Tree.{Tree, Members, member}
-use Rattle.miniserde_model.specs.Normal.{text_cmp, or_else, last_of, BeginsAbove, Rise, put, put_first_by}
+use Rattle.miniserde_model.specs.Normal.{text_cmp, or_else, last_of, BeginsAbove, Rise, put}
+use Rattle.miniserde_model.proofs.Lookups.{or_else_none}
 use Rattle.miniserde_ser.specs.Trees.{members_of}
 use Rattle.miniserde_text.proofs.Equal.{bytes_eq-flips}
-
-or_else_none : (a : Option Tree) → or_else a None ≡ a
-or_else_none None = refl
-or_else_none (Some t) = refl
 
 module _ {V : Type 0} (f : V → Tree) where
   abbrev Entries : Type 0
@@ -50,10 +47,10 @@ module _ {V : Type 0} (f : V → Tree) where
     where
       go : (o : Ordering) → string_cmp k e.0 ≡ o → shown (insert_entry string_cmp es k v) ≡ put (string_bytes k)
           (f v) (shown es) → shown
-          (match_ordering o ((k, v) ∷ e ∷ es) ((e.0, v) ∷ es) (e ∷ insert_entry string_cmp es k v)) ≡ put_first_by o
-          (string_bytes k) (f v) (string_bytes e.0) (f e.1) (shown es) (put (string_bytes k) (f v) (shown es))
+          (match_ordering o ((k, v) ∷ e ∷ es) ((e.0, v) ∷ es) (e ∷ insert_entry string_cmp es k v)) ≡ match_ordering o
+          (shown ((k, v) ∷ e ∷ es)) (shown ((e.0, v) ∷ es)) (member (string_bytes e.0) (f e.1) (put (string_bytes k) (f v) (shown es)))
       go Less c h = refl
-      go Equal c h = ap (λ n. member n (f v) (shown es)) (sym (exact_bytes (string_bytes k) (string_bytes e.0) c))
+      go Equal c h = refl
       go Greater c h = ap (member (string_bytes e.0) (f e.1)) h
 
   either : (b : Bool) (v : V) (t : Tree) (x : Option V) (o : Option Tree) → is_some x ≡ is_some o

@@ -2,7 +2,8 @@
 -- order. The first is `norm_after`, the second is by recursion over the tree: a name below all others stays first.
 use Rattle.std.proofs.Common.{◌≡◌, ℕ, ℤ, pos, negsuc, List, sym, refl, ap, ap₂, ◌∙◌}
 use Rattle.miniserde_model.specs.Tree.{Tree, neg, list, members, Trees, no_trees, tree, Members, no_members, member}
-use Rattle.miniserde_model.specs.Normal.{with_if_absent_by, with_if_absent, norm_neg, norm, BeginsAbove, Rise}
+use Rattle.miniserde_model.specs.Normal.{with_if_absent, norm_neg, norm, Rise}
+use Rattle.miniserde_model.proofs.Lookups.{first_of_all}
 use Rattle.miniserde_model.proofs.Normal.{norm_after}
 use Rattle.miniserde_value.specs.Retained.{retained_tree, retained_children, retained_members}
 use Rattle.miniserde_value.specs.Visits.{IsOrdered, AreOrdered, AreOrderedMembers}
@@ -18,11 +19,6 @@ neg_kept (negsuc n) = refl
 -- a normal form is kept as it is
 pub kept_norm : (t : Tree) → norm t ≡ retained_tree (norm t)
 kept_norm t = sym (norm_after neg norm_neg norm_neg neg_kept t)
-
--- a name below all others stands first
-pub first_of_all : (name : List ℕ) (t : Tree) (ms : Members) → BeginsAbove name ms → with_if_absent name t ms ≡ member name t ms
-first_of_all name t no_members b = refl
-first_of_all name t (member other u ms) b = ap (λ o. with_if_absent_by o name t other u ms (with_if_absent name t ms)) b
 
 mutual
   pub kept_ordered : (t : Tree) → IsOrdered t → retained_tree t ≡ t

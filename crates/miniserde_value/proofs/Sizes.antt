@@ -4,10 +4,11 @@ use Rattle.std.proofs.Common.{◌≡◌, ℕ, ◌+◌, List, refl, ap, ap₂}
 use Rattle.std.specs.Prelude.{⊤, ℤ, pos, negsuc}
 use Rattle.std.specs.declared.cmp.Ordering.{Ordering}
 use Rattle.std.specs.declared.cmp.Ordering.TheVariants.{Less, Equal, Greater}
+use Rattle.std.specs.Ordering.{match_ordering}
 use Rattle.miniserde_model.specs.Tree.{Tree, null, truth, nonneg, neg, num, str, list, members, Trees, no_trees}
 use Rattle.miniserde_model.specs.Tree.{tree, Members, no_members, member}
 use Rattle.miniserde_model.specs.Size.{size, size_of_children, size_of_members}
-use Rattle.miniserde_model.specs.Normal.{with_if_absent_by, with_if_absent, norm, norm_children, norm_members, norm_neg, text_cmp}
+use Rattle.miniserde_model.specs.Normal.{with_if_absent, norm, norm_children, norm_members, norm_neg, text_cmp}
 use Rattle.miniserde_value.specs.Retained.{retained_tree, retained_children, retained_members}
 
 -- the same names in the same order, each with as many values
@@ -30,7 +31,9 @@ record BothAlike : Type 0 where
 
 -- if the trees and the members are alike in pairs, so are the members with the name put before or among them
 placed_alike : (o : Ordering) (name other : List ℕ) (t u : SameSize) (ms more : BothAlike)
-    → Alike (with_if_absent_by o name t.one other u.one ms.one more.one) (with_if_absent_by o name t.two other u.two ms.two more.two)
+    → Alike (match_ordering o (member name t.one (member other u.one ms.one)) (member other u.one ms.one)
+    (member other u.one more.one)) (match_ordering o (member name t.two (member other u.two ms.two)) (member other u.two ms.two)
+    (member other u.two more.two))
 placed_alike Less name other t u ms more = (refl, t.same, (refl, u.same, ms.same))
 placed_alike Equal name other t u ms more = (refl, u.same, ms.same)
 placed_alike Greater name other t u ms more = (refl, u.same, more.same)

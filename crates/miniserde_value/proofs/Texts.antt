@@ -8,7 +8,7 @@ use Rattle.miniserde_model.specs.Compact.{string_text, compact, compact_children
 use Rattle.miniserde_value.specs.Visits.{TreeVisit, list_ends, members_end, visits, child_visits, member_visits}
 use Rattle.miniserde_value.specs.Visits.{IsOrdered, AreOrdered, AreOrderedMembers, visits_text, VisitsInRange}
 use Rattle.miniserde_model.proofs.Normal.{trees_with_first}
-use Rattle.miniserde_value.proofs.RetainedTrees.{first_of_all}
+use Rattle.miniserde_model.proofs.Lookups.{first_of_all}
 
 -- names above another stay above it where each tree is normal
 norm_above : (first : List ℕ) (ms : Members) → Rise ms → BeginsAbove first ms → BeginsAbove first (norm_members ms)

@@ -4,15 +4,15 @@
 use Rattle.std.proofs.Common.{◌≡◌, ℕ, ℤ, Bool, true, false, List, Option, Some, None, option_map, bytes_eq, cond}
 use Rattle.std.proofs.Common.{is_some, refl, sym, ap, ap₂, subst, ◌∙◌, Ordering, Less, Equal, Greater, true≢false}
 use Rattle.std.specs.Prelude.{◌≢◌, IsSome, MatchOption}
-use Rattle.std.specs.Ordering.{ordering_reverse, is_eq}
+use Rattle.std.specs.Ordering.{match_ordering, ordering_reverse, is_eq}
 use Rattle.std.proofs.lemmas.Bool.{false_from_ne_true}
 use Rattle.std.proofs.lemmas.Cmp.{nat_list_cmp_total, tied_itself}
 use Rattle.std.proofs.lemmas.Map.Lookups.{exact_bytes}
 use Rattle.std.proofs.lemmas.Slice.Eq.{bytes_eq-Decides}
 use Rattle.miniserde.specs.Tree.{Tree, members, Members, no_members, member}
 use Rattle.miniserde.specs.Laws.{NormKeepsLast, NormRises, NormIsOnly}
-use Rattle.miniserde.specs.Normal.{text_cmp, with_if_absent_by, with_if_absent, norm, norm_members}
-use Rattle.miniserde.specs.Normal.{or_else, last_of, BeginsAbove, Rise, put_first_by, put}
+use Rattle.miniserde.specs.Normal.{text_cmp, with_if_absent, norm, norm_members}
+use Rattle.miniserde.specs.Normal.{or_else, last_of, BeginsAbove, Rise, put}
 use Rattle.miniserde.specs.OnlyContainers.{only_members}
 use Rattle.miniserde.specs.Retained.{retained_members, retained_tree}
 use Rattle.miniserde.specs.Fields.{AllOfName, LastMemberReads}
@@ -24,14 +24,15 @@ above_with_first : (first name : List ℕ) (t : Tree) (ms : Members) → text_cm
     → BeginsAbove first ms → BeginsAbove first (with_if_absent name t ms)
 above_with_first first name t no_members p q = p
 above_with_first first name t (member other u ms) p q =
-    elim (text_cmp name other) as (λ o. BeginsAbove first (with_if_absent_by o name t other u ms (with_if_absent name t ms)))
+    elim (text_cmp name other) as (λ o. BeginsAbove first (match_ordering o (member name t (member other u ms)) (member other u ms)
+    (member other u (with_if_absent name t ms))))
     [ Less ↦ p | Equal ↦ q | Greater ↦ q ]
 
 rise_with_first : (name : List ℕ) (t : Tree) (ms : Members) → Rise ms → Rise (with_if_absent name t ms)
 rise_with_first name t no_members h = (tt, tt)
 rise_with_first name t (member other u ms) h =
     elim (text_cmp name other) as (λ o. text_cmp name other ≡ o
-    → Rise (with_if_absent_by o name t other u ms (with_if_absent name t ms))) [
+    → Rise (match_ordering o (member name t (member other u ms)) (member other u ms) (member other u (with_if_absent name t ms)))) [
       | Less ↦ λ e. (e, h)
       | Equal ↦ λ e. h
       | Greater ↦ λ e. (
@@ -94,12 +95,14 @@ last_put q name u (member other v ms) r =
     let none : (ns : Members) → BeginsAbove name ns → Rise ns → bytes_eq name q ≡ true → last_of q ns ≡ None =
     λ ns b r e. subst (λ z. last_of z ns ≡ None) ((bytes_eq-Decides name q).0 e) (absent name ns b r) in
     elim (text_cmp name other) as (λ o. text_cmp name other ≡ o
-    → last_of q (put_first_by o name u other v ms (put name u ms)) ≡ or_else (if_named name u q) (last_of q (member other v ms))) [
+    → last_of q (match_ordering o (member name u (member other v ms)) (member other u ms) (member other v (put name u ms))) ≡ or_else
+    (if_named name u q) (last_of q (member other v ms))) [
       | Less ↦ λ e. either_end (bytes_eq name q) (last_of q (member other v ms)) u (none (member other v ms) e r)
       | Equal ↦ λ e.
           let same : name ≡ other = exact_bytes name other e in
-          only_one (bytes_eq name q) (last_of q ms) u v (none ms (subst (λ z. BeginsAbove z ms) (sym same) r.0) r.1)
-          ∙ ap (λ z. or_else (if_named name u q) (or_else (last_of q ms) (if_named z v q))) same
+          only_one (bytes_eq other q) (last_of q ms) u v
+          (λ f. none ms (subst (λ z. BeginsAbove z ms) (sym same) r.0) r.1 (subst (λ z. bytes_eq z q ≡ true) (sym same) f))
+          ∙ ap (λ z. or_else (if_named z u q) (or_else (last_of q ms) (if_named other v q))) (sym same)
       | Greater ↦ λ e. ap (λ z. or_else z (if_named other v q)) (last_put q name u ms r.1)
           ∙ or_else_assoc (if_named name u q) (last_of q ms) (if_named other v q)
     ] refl

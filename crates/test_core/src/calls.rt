@@ -24,7 +24,14 @@ pub fn sent(alloc: Global, text: &str) -> Result<String>
 #[cfg(test)]
 mod tests {
     use super::sent;
+    use crate::parcel::Parcel;
+    use crate::task::Label;
+    use miniserde_core::json::from_str;
+    use miniserde_core::ser::Writer;
+    use miniserde_core::{FromJson, Result, Serialize};
     use std::alloc::Global;
+    use std::collections::{BTreeMap, HashMap};
+    use std::hash::{BuildHasherDefault, DefaultHasher};
 
     // Returns whether a text of a parcel gives that text of one that was sent, or is invalid if there is none.
     fn gives(alloc: Global, text: &str, wanted: Option<&str>) -> bool {
@@ -75,5 +82,34 @@ mod tests {
         for (text, wanted) in cases {
             assert!(rt; gives(rt.alloc(), text, wanted));
         }
+    }
+
+    // Returns whether a value that a text means is written as that text, and whether the writer then knows as much of
+    // its normal form as `known` says.
+    fn is_written<T: FromJson + Serialize>(alloc: Global, text: &str, known: bool) -> Result<bool> {
+        let value: T = from_str(alloc, text)?;
+        let mut w = Writer::watching(alloc);
+        value.begin(&mut w)?;
+        Ok(w.is_normal() == known && w.into_string()?.as_str() == text)
+    }
+
+    type Hashed = HashMap<String, Label, BuildHasherDefault<DefaultHasher>>;
+
+    // Structs and maps whose names rise leave the text known to be canonical, and others do not.
+    #[test]
+    fn names_that_rise_are_known_to(rt: HostRuntime) -> Result<()> {
+        let labels = "{\"a\":{\"text\":\"\"},\"b\":{\"text\":\"c\"},\"c\":{\"text\":\"\"}}";
+        let parcel =
+            "{\"id\":7,\"state\":\"sent\",\"before\":\"sent\",\"weights\":[],\"tasks\":[],\"extra\":null}";
+        assert!(rt;
+            is_written::<Vec<Label>>(rt.alloc(), "[{\"text\":\"b\"},{\"text\":\"a\"}]", true)?
+        );
+        assert!(rt; is_written::<BTreeMap<String, Label>>(rt.alloc(), labels, true)?);
+        assert!(rt; is_written::<Hashed>(rt.alloc(), labels, true)?);
+        assert!(rt;
+            is_written::<BTreeMap<u8, bool>>(rt.alloc(), "{\"9\":true,\"10\":false}", false)?
+        );
+        assert!(rt; is_written::<Parcel>(rt.alloc(), parcel, false)?);
+        Ok(())
     }
 }

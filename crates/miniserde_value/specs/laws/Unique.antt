@@ -4,12 +4,13 @@ use Rattle.std.proofs.Common.{bytes_eq, refl, sym, ap, ap₂, ◌∙◌, append_
 use Rattle.std.proofs.Common.{Greater}
 use Rattle.std.specs.Prelude.{◌↔◌, ◌&&◌, ◌||◌, not, option_and_then}
 use Rattle.std.proofs.lemmas.Map.Lookups.{exact_bytes}
+use Rattle.std.specs.Ordering.{match_ordering}
 use Rattle.miniserde_text.proofs.Equal.{bytes_eq-flips}
 use Rattle.miniserde_model.specs.Tree.{Tree, null, truth, nonneg, neg, num, str, list, members, Trees, no_trees}
 use Rattle.miniserde_model.specs.Tree.{tree, Members, no_members, member}
 use Rattle.miniserde_model.specs.Step.{Step, finish, events, child_events, member_events}
 use Rattle.miniserde_model.specs.Distinct.{has_name, names_distinct, names_distinct_in_children, names_distinct_in_members}
-use Rattle.miniserde_model.specs.Normal.{text_cmp, or_else, last_of, put as put_member, put_first_by}
+use Rattle.miniserde_model.specs.Normal.{text_cmp, or_else, last_of, put as put_member}
 use Rattle.miniserde_value.specs.Retained.{retained_tree, retained_children, retained_if}
 use Rattle.miniserde_value.specs.Hole.{Hole, outside, in_list, in_members, with_tree, outcome}
 use Rattle.miniserde_value.specs.laws.Outcomes.{outcome-whole}
@@ -45,11 +46,11 @@ has_put q name t (member other u ms) = go (text_cmp name other) refl (has_put q 
   where
     go : (o : Ordering) → text_cmp name other ≡ o
         → has_name q (put_member name t ms) ≡ (bytes_eq name q || has_name q ms)
-        → has_name q (put_first_by o name t other u ms (put_member name t ms))
+        → has_name q (match_ordering o (member name t (member other u ms)) (member other t ms) (member other u (put_member name t ms)))
         ≡ (bytes_eq name q || has_name q (member other u ms))
     go Less e more = has_member_first q name t (member other u ms)
-    go Equal e more = has_member_first q name t ms ∙ twice (bytes_eq name q) (has_name q ms)
-        ∙ ap (λ n. bytes_eq name q || (bytes_eq n q || has_name q ms)) (exact_bytes name other e)
+    go Equal e more = has_member_first q other t ms ∙ twice (bytes_eq other q) (has_name q ms)
+        ∙ ap (λ n. bytes_eq n q || (bytes_eq other q || has_name q ms)) (sym (exact_bytes name other e))
         ∙ ap (λ b. bytes_eq name q || b) (sym (has_member_first q other u ms))
     go Greater e more = has_member_first q other u (put_member name t ms) ∙ ap (λ b. bytes_eq other q || b) more
         ∙ swapped (bytes_eq other q) (bytes_eq name q) (has_name q ms) ∙ ap (λ b. bytes_eq name q || b)
