@@ -2,13 +2,14 @@
 -- chain. By induction over the members: the seam before a member has its comma, its point and its name.
 use Rattle.std.proofs.Common.{◌≡◌, ◌+◌, ℕ, suc, List, [], ◌∷◌, ◌++◌, length, refl, sym, ap, subst, ◌∙◌}
 use Rattle.std.proofs.Common.{append_assoc, append-nil, arith, length-append}
+use Rattle.miniserde_model.specs.Tokens.{comma_before}
 use Rattle.miniserde_canonical.specs.declared.spread.Point.{Point}
 use Rattle.miniserde_canonical.specs.declared.spread.Splice.{Splice}
 use Rattle.miniserde_canonical.specs.declared.spread.SplicedText.{SplicedText}
 use Rattle.miniserde_canonical.specs.declared.member.Member.{Member}
 use Rattle.miniserde_canonical.specs.private.SplicedTexts.{Holds, none, TextFrom, text_from, FilledPart}
 use Rattle.miniserde_canonical.specs.private.MemberNames.{name_of}
-use Rattle.miniserde_canonical.specs.private.States.{comma_before, MemberEntry, entries_text}
+use Rattle.miniserde_canonical.specs.private.States.{MemberEntry, entries_text}
 use Rattle.miniserde_canonical.specs.private.SortMembers.{Seam, Chain}
 use Rattle.miniserde_canonical.proofs.SplicedTexts.{holds_append, holds_behind, holds_more}
 

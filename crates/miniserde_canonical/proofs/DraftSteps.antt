@@ -7,14 +7,14 @@ use Rattle.std.proofs.Math.Seq.{take-append_seam}
 use Rattle.std.proofs.lemmas.List.{take-append-drop, length-take-le, length-drop, drop_all, take_all}
 use Rattle.miniserde_model.specs.Compact.{string_text}
 use Rattle.miniserde_model.specs.Normal.{norm_members, Rise}
-use Rattle.miniserde_canonical.specs.CanonicalToken.{name, object}
+use Rattle.miniserde_model.specs.Tokens.{name, object, comma_before}
 use Rattle.miniserde_canonical.specs.declared.spread.Splice.{Splice}
 use Rattle.miniserde_canonical.specs.declared.spread.SplicedText.{SplicedText}
 use Rattle.miniserde_canonical.specs.declared.member.Member.{Member}
 use Rattle.miniserde_canonical.specs.declared.draft.Draft.{Draft}
 use Rattle.miniserde_canonical.specs.private.SplicedTexts.{none, SplicesInOrder, text_begin, text_from, FilledText, FilledPart}
 use Rattle.miniserde_canonical.specs.private.Members.{NamesRise}
-use Rattle.miniserde_canonical.specs.private.States.{comma_before, MemberEntry, State, initial_state, entry_members}
+use Rattle.miniserde_canonical.specs.private.States.{MemberEntry, State, initial_state, entry_members}
 use Rattle.miniserde_canonical.specs.private.States.{joined_texts, entries_text, once_each, AddsBytes, Sorted}
 use Rattle.miniserde_canonical.specs.private.States.{Arranged, Closes, TokenStep}
 use Rattle.miniserde_canonical.specs.private.SortMembers.{Chain, EndsWithMembers, texts, SortsMembers}

@@ -3,13 +3,14 @@
 use Rattle.std.proofs.Common.{◌≡◌, ◌≤◌, ◌-◌, ◌+◌, ℕ, zero, suc, List, [], ◌∷◌, ◌++◌, length, drop, refl, sym, ap}
 use Rattle.std.proofs.Common.{subst, ◌∙◌, append_assoc, arith, length-append}
 use Rattle.std.proofs.lemmas.List.{drop_all}
+use Rattle.miniserde_model.specs.Tokens.{comma_before}
 use Rattle.miniserde_canonical.specs.declared.spread.Point.{Point}
 use Rattle.miniserde_canonical.specs.declared.spread.Splice.{Splice}
 use Rattle.miniserde_canonical.specs.declared.spread.SplicedText.{SplicedText}
 use Rattle.miniserde_canonical.specs.declared.member.Member.{Member}
 use Rattle.miniserde_canonical.specs.private.SplicedTexts.{part_between, Holds, none, text_begin, TextFrom, text_from}
 use Rattle.miniserde_canonical.specs.private.Members.{begin_of, before_comma, end_of}
-use Rattle.miniserde_canonical.specs.private.States.{comma_before, MemberEntry, text_before}
+use Rattle.miniserde_canonical.specs.private.States.{MemberEntry, text_before}
 use Rattle.miniserde_canonical.specs.private.SortMembers.{Seam, Chain, EndsWithMembersFrom, EndsWithMembers, IsEnd, text_at}
 use Rattle.miniserde_canonical.proofs.SplicedTexts.{between_end, between_mid, between_none}
 use Rattle.miniserde_canonical.proofs.MemberLists.{Agree}

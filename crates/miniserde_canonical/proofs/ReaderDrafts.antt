@@ -6,6 +6,7 @@ use Rattle.miniserde_model.specs.Tree.{Tree}
 use Rattle.miniserde_model.specs.Value.{IsJson}
 use Rattle.miniserde_model.specs.Whitespace.{IsWhitespace}
 use Rattle.miniserde_model.specs.Compact.{compact, string_text}
+use Rattle.miniserde_model.specs.Normal.{norm}
 use Rattle.miniserde_model.specs.Step.{Step, boolean, string, negative, nonnegative, float, seq, element, map, key, finish}
 use Rattle.miniserde_model.specs.Step as step
 use Rattle.miniserde_model.specs.Bytes.{is_space, StopsAt}
@@ -22,10 +23,10 @@ use Rattle.miniserde_canonical.proofs.Plains.{at_once}
 use Rattle.miniserde_model.specs.private.Reading.{Moment, due, after}
 use Rattle.miniserde_text.specs.private.Stack.{innermost}
 use Rattle.miniserde_text.specs.private.Moments.{opened_kind, first_or_after}
-use Rattle.miniserde_canonical.specs.CanonicalToken.{CanonicalToken, leaf, name, array, array_end, object, object_end, tokens}
-use Rattle.miniserde_canonical.specs.CanonicalToken as token
+use Rattle.miniserde_model.specs.Tokens.{Token, leaf, name, array, array_end, object, object_end, tokens, comma_before}
+use Rattle.miniserde_model.specs.Tokens as token
 use Rattle.miniserde_canonical.specs.declared.draft.Draft.{Draft}
-use Rattle.miniserde_canonical.specs.private.States.{comma_before, State, Closes, TokenStep, TokenSteps, initial_state}
+use Rattle.miniserde_canonical.specs.private.States.{State, Closes, TokenStep, TokenSteps, initial_state}
 use Rattle.miniserde_canonical.specs.private.Drafts.{Wrote, Holding, Represents, ChangesOnlyText, Recalls, draft_at}
 use Rattle.miniserde_canonical.specs.private.Drafts.{DraftTakes}
 use Rattle.miniserde_canonical.specs.private.EventTokens.{first_token, ReadsTokens}
@@ -37,8 +38,14 @@ use Rattle.miniserde_canonical.proofs.WholeTexts.{ReadsTokens-append, end_ok}
 -- ---- one token
 
 -- behind a token, which is the front of a value
-abbrev fronted : CanonicalToken → State → State
-fronted (leaf t) s = record { entries = s.entries; last = s.last ++ compact t; opened = s.opened; first = false; distinct = s.distinct }
+abbrev fronted : Token → State → State
+fronted (leaf t) s = record {
+  entries = s.entries;
+  last = s.last ++ compact (norm t);
+  opened = s.opened;
+  first = false;
+  distinct = s.distinct;
+}
 fronted array s = record { entries = s.entries; last = s.last ++ 91 ∷ []; opened = s.opened; first = true; distinct = s.distinct }
 fronted object s = record {
   entries = s.entries;
@@ -158,7 +165,7 @@ takes_object_end {rest' = rest'} m d' k e f = λ s r h.
 
 -- tokens of j up to `rest` were read, up to the moment m inside st, and the draft d took them from `initial_state` on
 pub record Taken (j : List ℕ) (m : Moment) (st : List Kind) (rest : List ℕ) (d : Draft) : Type 0 where
-  pub tokens : List CanonicalToken
+  pub tokens : List Token
   pub state : State
   pub reads : ReadsTokens due [] j tokens m st rest
   pub steps : TokenSteps tokens initial_state state
@@ -166,7 +173,7 @@ pub record Taken (j : List ℕ) (m : Moment) (st : List Kind) (rest : List ℕ) 
   pub recalls : Recalls m state
 
 -- if ks are read from the beginning of j, and a draft that represents `initial_state` takes them, `Taken` holds
-pub taken_first : {j s rest : List ℕ} {st su : List Kind} {ks : List CanonicalToken} {m : Moment} {d d' : Draft}
+pub taken_first : {j s rest : List ℕ} {st su : List Kind} {ks : List Token} {m : Moment} {d d' : Draft}
     → su ≡ [] → s ≡ j → Represents d j initial_state → ReadsTokens due su s ks m st rest
     → DraftTakes (draft_at due j d) ks (draft_at m rest d') → Taken j m st rest d'
 taken_first {j = j} {rest = rest} {st = st} {su = su} {ks = ks} {m = m} e f r p t =
@@ -182,7 +189,7 @@ taken_first {j = j} {rest = rest} {st = st} {su = su} {ks = ks} {m = m} e f r p 
     }
 
 -- if `Taken` holds, and then more tokens are read and taken, `Taken` holds after them
-pub taken_more : {j rest rest' : List ℕ} {m m' : Moment} {st st' : List Kind} {ks : List CanonicalToken} {d d' : Draft}
+pub taken_more : {j rest rest' : List ℕ} {m m' : Moment} {st st' : List Kind} {ks : List Token} {d d' : Draft}
     → Taken j m st rest d → ReadsTokens m st rest ks m' st' rest'
     → DraftTakes (draft_at m rest d) ks (draft_at m' rest' d') → Taken j m' st' rest' d'
 taken_more {ks = ks} t p f =
@@ -201,7 +208,7 @@ taken_more {ks = ks} t p f =
 -- if no container is open and only whitespace is left, the tokens taken are those of a tree that j spells
 pub taken_all : {j rest : List ℕ} {st : List Kind} {d : Draft} (f : Bool) → innermost st ≡ None
     → IsWhitespace rest → Taken j (first_or_after f) st rest d → (t : Tree) × (s : State) × IsJson j t
-    × TokenSteps (tokens t) initial_state s × Represents d rest s
+    × TokenSteps (tokens t []) initial_state s × Represents d rest s
 taken_all {st = st} f e w k =
     let t = end_ok f st e k.reads w in
     (t.0, k.state, t.1, subst (λ z. TokenSteps z initial_state k.state) t.2 k.steps, k.represents)

@@ -7,6 +7,7 @@ use Rattle.std.proofs.Math.Seq.{take-append_seam}
 use Rattle.std.proofs.lemmas.Bool.Decides.{nat_tests}
 use Rattle.miniserde_model.specs.Tree.{Tree}
 use Rattle.miniserde_model.specs.Normal.{norm_members}
+use Rattle.miniserde_model.specs.Tokens.{comma_before}
 use Rattle.miniserde_canonical.specs.declared.spread.Point.{Point}
 use Rattle.miniserde_canonical.specs.declared.spread.Span.{Span}
 use Rattle.miniserde_canonical.specs.declared.spread.Splice.{Splice}
@@ -15,7 +16,7 @@ use Rattle.miniserde_canonical.specs.declared.member.Member.{Member}
 use Rattle.miniserde_canonical.specs.private.SplicedTexts.{Within, bytes_in, splices_in, shifted_splice, Holds, none, text_begin}
 use Rattle.miniserde_canonical.specs.private.SplicedTexts.{Ordered, AllBefore}
 use Rattle.miniserde_canonical.specs.private.Members.{name_in, begin_of, end_of, members_at, begins_with_name, without_repeats}
-use Rattle.miniserde_canonical.specs.private.States.{comma_before, MemberEntry, entry_members, joined_texts, count}
+use Rattle.miniserde_canonical.specs.private.States.{MemberEntry, entry_members, joined_texts, count}
 use Rattle.miniserde_canonical.specs.private.SortMembers.{EndsWithMembers, text_at, own_text_tree, IsEnd, Gains, PutsMember}
 use Rattle.miniserde_canonical.specs.private.SortMembers.{PutsMembers, Texts, texts, PutAt, PutsBack, SortsMembers}
 use Rattle.miniserde_canonical.proofs.SplicedTexts.{between_end, between_none, holds_plain, plain_text, holds_append}

@@ -7,14 +7,14 @@ use Rattle.std.proofs.Math.Bool.{and-true, and_assoc}
 use Rattle.std.proofs.Math.Seq.{take-append_seam, drop-append_seam}
 use Rattle.std.proofs.lemmas.Bool.{eq-eqb}
 use Rattle.std.specs.Ordering.{match_ordering}
-use Rattle.miniserde_model.specs.Tree.{Tree, null, truth, nonneg, neg, num, str, list, members, Trees, no_trees}
+use Rattle.miniserde_model.specs.Tree.{Tree, str, list, members, Trees, no_trees}
 use Rattle.miniserde_model.specs.Tree.{tree, Members, no_members, member}
 use Rattle.miniserde_model.specs.Compact.{compact, compact_children, compact_more, compact_members, compact_more_members, string_text}
 use Rattle.miniserde_model.specs.Distinct.{names_distinct, names_distinct_in_children, names_distinct_in_members}
 use Rattle.miniserde_model.specs.Normal.{norm, norm_children, norm_members, with_if_absent, text_cmp, BeginsAbove, Rise}
-use Rattle.miniserde_canonical.specs.CanonicalToken.{CanonicalToken, leaf, name, array_end, object, object_end}
-use Rattle.miniserde_canonical.specs.CanonicalToken.{tokens, child_tokens, member_tokens}
-use Rattle.miniserde_canonical.specs.private.States.{comma_before, MemberEntry, State, initial_state, text_before}
+use Rattle.miniserde_model.specs.Tokens.{Token, leaf, name, array_end, object, object_end, comma_before}
+use Rattle.miniserde_model.specs.Tokens.{tokens, child_tokens, member_tokens}
+use Rattle.miniserde_canonical.specs.private.States.{MemberEntry, State, initial_state, text_before}
 use Rattle.miniserde_canonical.specs.private.States.{entry_members, joined_texts, entries_text, count, once_each}
 use Rattle.miniserde_canonical.specs.private.States.{Arranged, Closes, TokenStep, TokenSteps}
 use Rattle.miniserde_model.proofs.Lookups.{first_of_all}
@@ -23,13 +23,9 @@ use Rattle.miniserde_canonical.proofs.Repeats.{nested_names_distinct, distinct_c
 -- ---- runs
 
 -- a run over ks and a run over ls from its end are a run over `ks ++ ls`
-pub steps_append : (ks ls : List CanonicalToken) (s m s' : State) → TokenSteps ks s m → TokenSteps ls m s' → TokenSteps (ks ++ ls) s s'
+pub steps_append : (ks ls : List Token) (s m s' : State) → TokenSteps ks s m → TokenSteps ls m s' → TokenSteps (ks ++ ls) s s'
 steps_append [] ls s m s' r p = subst (λ z. TokenSteps ls z s') (sym r) p
 steps_append (k ∷ ks) ls s m s' r p = (r.0, r.1, steps_append ks ls r.0 m s' r.2 p)
-
-run_split : (ks ls : List CanonicalToken) (s s' : State) → TokenSteps (ks ++ ls) s s' → (m : State) × TokenSteps ks s m × TokenSteps ls m s'
-run_split [] ls s s' r = (s, refl, r)
-run_split (k ∷ ks) ls s s' r = let t = run_split ks ls r.0 s' r.2 in (t.0, (r.0, r.1, t.1), t.2)
 
 -- ---- what a run adds
 
@@ -40,9 +36,8 @@ record Grows (s s' : State) (x : List ℕ) (d : Bool) : Type 0 where
   pub opened : s'.opened ≡ s.opened
   pub distinct : s'.distinct ≡ (s.distinct && d)
 
-grows_none : (s s' : State) → s ≡ s' → Grows s s' [] true
-grows_none s s' e = subst (λ z. Grows s z [] true) e
-    (record { last = sym (append-nil s.last); entries = refl; opened = refl; distinct = sym (and-true s.distinct) })
+grows_none : (s : State) → Grows s s [] true
+grows_none s = record { last = sym (append-nil s.last); entries = refl; opened = refl; distinct = sym (and-true s.distinct) }
 
 grows_append : (s m s' : State) (x y : List ℕ) (d e : Bool) → Grows s m x d → Grows m s' y e → Grows s s' (x ++ y) (d && e)
 grows_append s m s' x y d e p q = record {
@@ -85,16 +80,14 @@ record Lines (s s' : State) (ms : Members) : Type 0 where
   pub distinct : s'.distinct ≡ (s.distinct && nested_names_distinct ms)
   pub lays : Lays added ms s.last s.first s'.last
 
-lines_none : (s s' : State) → s ≡ s' → Lines s s' no_members
-lines_none s s' e = subst (λ z. Lines s z no_members) e
-    (record {
-      added = [];
-      entries = sym (append-nil s.entries);
-      opened = refl;
-      distinct =
-          sym (and-true s.distinct);
-      lays = refl;
-    })
+lines_none : (s : State) → Lines s s no_members
+lines_none s = record {
+  added = [];
+  entries = sym (append-nil s.entries);
+  opened = refl;
+  distinct = sym (and-true s.distinct);
+  lays = refl;
+}
 
 lines_cons : (n : List ℕ) (t : Tree) (ms : Members) (s : State) {m u s' : State} → TokenStep (name n) s m
     → Grows m u (compact (norm t)) (names_distinct t) → u.first ≡ false → Lines u s' ms → Lines s s' (member n t ms)
@@ -269,22 +262,15 @@ first_text false ts e = absurd (cc)
 abbrev Whole : State → State → List ℕ → Bool → Type 0
 Whole s s' x d = Grows s s' x d × (s'.first ≡ false)
 
-leaf_grows : (t : Tree) (s m s' : State) → TokenStep (leaf t) s m → m ≡ s' → Whole s s' (compact t) true
-leaf_grows t s m s' a e =
-    subst (λ z. Whole s z (compact t) true) e
-    (record { last = a.0.0; entries = a.0.1; opened = a.0.2; distinct = a.0.3 ∙ sym (and-true s.distinct) }, a.1)
+leaf_grows : (t : Tree) (s m : State) → TokenStep (leaf t) s m → Whole s m (compact (norm t)) true
+leaf_grows t s m a = (record { last = a.0.0; entries = a.0.1; opened = a.0.2; distinct = a.0.3 ∙ sym (and-true s.distinct) }, a.1)
 
 mutual
-  tree_grows : (t : Tree) (s s' : State) → TokenSteps (tokens t) s s' → Whole s s' (compact (norm t)) (names_distinct t)
-  tree_grows null s s' r = leaf_grows null s r.0 s' r.1 r.2
-  tree_grows (truth x) s s' r = leaf_grows (truth x) s r.0 s' r.1 r.2
-  tree_grows (nonneg n) s s' r = leaf_grows (nonneg n) s r.0 s' r.1 r.2
-  tree_grows (neg z) s s' r = leaf_grows (norm (neg z)) s r.0 s' r.1 r.2
-  tree_grows (num x) s s' r = leaf_grows (num x) s r.0 s' r.1 r.2
-  tree_grows (str x) s s' r = leaf_grows (str x) s r.0 s' r.1 r.2
-  tree_grows (list ts) s s' r =
+  tree_grows : (t : Tree) (ks : List Token) (s s' : State) → TokenSteps (tokens t ks) s s'
+      → (m : State) × Whole s m (compact (norm t)) (names_distinct t) × TokenSteps ks m s'
+  tree_grows (list ts) ks s s' r =
       let m = r.0 in
-      let t = run_split (child_tokens ts) (array_end ∷ []) m s' r.2 in
+      let t = children_grow ts (array_end ∷ ks) m s' r.2 in
       let e = t.2 in
       let begun : Grows s m (91 ∷ []) true =
       record {
@@ -303,15 +289,14 @@ mutual
             e.1.0.3 ∙ sym (and-true t.0.distinct);
       } in
       let inside : Grows m t.0 (compact_children (norm_children ts)) (names_distinct_in_children ts) =
-      grows_as m t.0 _ _ _ _ (first_text m.first (norm_children ts) r.1.1) refl (children_grow ts m t.0 t.1) in
+      grows_as m t.0 _ _ _ _ (first_text m.first (norm_children ts) r.1.1) refl t.1 in
       let all = grows_append s m e.0 (91 ∷ []) _ true _ begun
       (grows_append m t.0 e.0 (compact_children (norm_children ts)) (93 ∷ []) (names_distinct_in_children ts)
       true inside closed) in
-      subst (λ z. Whole s z (compact (norm (list ts))) (names_distinct_in_children ts)) e.2
-      (grows_as s e.0 _ _ _ _ refl (and-true (names_distinct_in_children ts)) all, e.1.1)
-  tree_grows (members ms) s s' r =
+      (e.0, (grows_as s e.0 _ _ _ _ refl (and-true (names_distinct_in_children ts)) all, e.1.1), e.2)
+  tree_grows (members ms) ks s s' r =
       let m = r.0 in
-      let t = run_split (member_tokens ms) (object_end ∷ []) m s' r.2 in
+      let t = members_grow ms (object_end ∷ ks) m s' r.2 in
       let e = t.2 in
       let k = e.1.0 in
       let closed : Grows k e.0 (125 ∷ []) true =
@@ -323,34 +308,36 @@ mutual
             e.1.2.3 ∙ sym (and-true k.distinct);
       } in
       let all = grows_append s k e.0 (123 ∷ compact_members (norm_members ms)) (125 ∷ [])
-      (names_distinct_in_members ms) true (object_grows ms s m t.0 k r.1 (members_grow ms m t.0 t.1) e.1.1)
-      closed in
-      subst (λ z. Whole s z (compact (norm (members ms))) (names_distinct_in_members ms)) e.2
-      (grows_as s e.0 _ _ _ _ refl (and-true (names_distinct_in_members ms)) all, e.1.3)
+      (names_distinct_in_members ms) true (object_grows ms s m t.0 k r.1 t.1 e.1.1) closed in
+      (e.0, (grows_as s e.0 _ _ _ _ refl (and-true (names_distinct_in_members ms)) all, e.1.3), e.2)
+  tree_grows t ks s s' r = (r.0, leaf_grows t s r.0 r.1, r.2)
 
-  children_grow : (ts : Trees) (s s' : State) → TokenSteps (child_tokens ts) s s'
-      → Grows s s' (children_text s.first (norm_children ts)) (names_distinct_in_children ts)
-  children_grow no_trees s s' r = grows_none s s' r
-  children_grow (tree t ts) s s' r =
+  children_grow : (ts : Trees) (ks : List Token) (s s' : State) → TokenSteps (child_tokens ts ks) s s'
+      → (m : State) × Grows s m (children_text s.first (norm_children ts)) (names_distinct_in_children ts) × TokenSteps ks m s'
+  children_grow no_trees ks s s' r = (s, grows_none s, r)
+  children_grow (tree t ts) ks s s' r =
       let m = r.0 in
-      let u = run_split (tokens t) (child_tokens ts) m s' r.2 in
-      let a = tree_grows t m u.0 u.1 in
+      let u = tree_grows t (child_tokens ts ks) m s' r.2 in
+      let v = children_grow ts ks u.0 s' u.2 in
       let begun : Grows s m (comma_before s.first) true =
       record { last = r.1.0; entries = r.1.1; opened = r.1.2; distinct = r.1.3 ∙ sym (and-true s.distinct) } in
-      let rest : Grows u.0 s' (children_text false (norm_children ts)) (names_distinct_in_children ts) =
-      grows_as u.0 s' _ _ _ _ (ap (λ z. children_text z (norm_children ts)) a.1) refl
-      (children_grow ts u.0 s' u.2) in
-      grows_append s m s' (comma_before s.first) _ true _ begun (grows_append m u.0 s' (compact (norm t)) _ (names_distinct t) _ a.0 rest)
+      let rest : Grows u.0 v.0 (children_text false (norm_children ts)) (names_distinct_in_children ts) =
+      grows_as u.0 v.0 _ _ _ _ (ap (λ z. children_text z (norm_children ts)) u.1.1) refl v.1 in
+      let all = grows_append m u.0 v.0 (compact (norm t)) _ (names_distinct t) _ u.1.0 rest in
+      (v.0, grows_append s m v.0 (comma_before s.first) _ true _ begun all, v.2)
 
-  members_grow : (ms : Members) (s s' : State) → TokenSteps (member_tokens ms) s s' → Lines s s' ms
-  members_grow no_members s s' r = lines_none s s' r
-  members_grow (member n t ms) s s' r =
-      let m = r.0 in
-      let u = run_split (tokens t) (member_tokens ms) m s' r.2 in
-      let a = tree_grows t m u.0 u.1 in
-      lines_cons n t ms s r.1 a.0 a.1 (members_grow ms u.0 s' u.2)
+  members_grow : (ms : Members) (ks : List Token) (s s' : State) → TokenSteps (member_tokens ms ks) s s'
+      → (m : State) × Lines s m ms × TokenSteps ks m s'
+  members_grow no_members ks s s' r = (s, lines_none s, r)
+  members_grow (member n t ms) ks s s' r =
+      let u = tree_grows t (member_tokens ms ks) r.0 s' r.2 in
+      let v = members_grow ms ks u.0 s' u.2 in
+      (v.0, lines_cons n t ms s r.1 u.1.0 u.1.1 v.1, v.2)
 
 -- a run over a tree's tokens makes the canonical text and no entries, and `distinct` is `names_distinct`
-pub steps_make : (t : Tree) (s : State) → TokenSteps (tokens t) initial_state s → (s.last ≡ compact (norm t)) × (s.entries ≡ [])
+pub steps_make : (t : Tree) (s : State) → TokenSteps (tokens t []) initial_state s → (s.last ≡ compact (norm t)) × (s.entries ≡ [])
     × (s.distinct ≡ names_distinct t)
-steps_make t s r = let g = tree_grows t initial_state s r in (g.0.last, g.0.entries, g.0.distinct)
+steps_make t s r =
+    let m = tree_grows t [] initial_state s r in
+    let g = subst (λ z. Whole initial_state z (compact (norm t)) (names_distinct t)) m.2 m.1 in
+    (g.0.last, g.0.entries, g.0.distinct)

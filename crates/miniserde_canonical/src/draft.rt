@@ -14,10 +14,10 @@ ghost use Rattle.miniserde_model.specs.Compact.{string_text};
 ghost use Rattle.miniserde_text.specs.Lexer.{Blank, event_of_token, text_of, SpelledToken};
 ghost use Rattle.miniserde_text.specs.private.Escape.{escapes};
 ghost use Rattle.miniserde_text.specs.private.Moments.{opened_kind};
-ghost use Rattle.miniserde_canonical.specs.CanonicalToken.{name};
+ghost use Rattle.miniserde_model.specs.Tokens.{name, comma_before};
 ghost use Rattle.miniserde_canonical.specs.private.EventTokens.{first_token};
 ghost use Rattle.miniserde_canonical.specs.private.Plain.{TextPlain, PartIsToken, NameSpelled};
-ghost use Rattle.miniserde_canonical.specs.private.States.{State, TokenStep, Closes, comma_before, initial_state};
+ghost use Rattle.miniserde_canonical.specs.private.States.{State, TokenStep, Closes, initial_state};
 ghost use Rattle.miniserde_canonical.specs.private.Drafts.{Wrote, Holding, TakesPart, ChangesOnlyText, Represents};
 
 use crate::member::{Member, Name};

@@ -1,8 +1,8 @@
 //! Appends to the text what cannot be copied from the input as it is.
 ghost use Rattle.std.specs.Prelude.{◌≡◌, ◌++◌, ◌∷◌, [], ℕ, List, length, true, OnOk};
 ghost use Rattle.miniserde_model.specs.Compact.{string_text};
+ghost use Rattle.miniserde_model.specs.Tokens.{comma_before};
 ghost use Rattle.miniserde_text.specs.Lexer.{text_of};
-ghost use Rattle.miniserde_canonical.specs.private.States.{comma_before};
 ghost use Rattle.miniserde_canonical.specs.private.Plain.{TextPlain, NameSpelled, needs_no_escape};
 
 use miniserde_text::escape::escape_str;

@@ -13,6 +13,7 @@ pub mod Number
 pub mod Position
 pub mod Size
 pub mod String
+pub mod Tokens
 pub mod Tree
 pub mod Value
 pub mod Whitespace

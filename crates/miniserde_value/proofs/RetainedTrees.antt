@@ -6,7 +6,7 @@ use Rattle.miniserde_model.specs.Normal.{with_if_absent, norm_neg, norm, Rise}
 use Rattle.miniserde_model.proofs.Lookups.{first_of_all}
 use Rattle.miniserde_model.proofs.Normal.{norm_after}
 use Rattle.miniserde_value.specs.Retained.{retained_tree, retained_children, retained_members}
-use Rattle.miniserde_value.specs.Visits.{IsOrdered, AreOrdered, AreOrderedMembers}
+use Rattle.miniserde_value.specs.Tokens.{IsOrdered, AreOrdered, AreOrderedMembers}
 
 -- the normal form of the retained tree is the normal form of the tree
 pub norm_kept : (t : Tree) → norm (retained_tree t) ≡ norm t

@@ -1,4 +1,4 @@
--- The first visit of a value is its leaf or the opening of its container, and the visits of the children are left. By
+-- The first token of a value is its leaf or the opening of its container, and the tokens of the children are left. By
 -- cases of the variant, whose tree is a lemma of `ContentTrees.antt`.
 use Rattle.std.proofs.Common.{◌≡◌, Bool, List, ◌∷◌, refl, sym, ap, ◌∙◌, subst}
 use Rattle.std.specs.Prelude.{String, string_bytes}
@@ -10,6 +10,8 @@ use Rattle.std.specs.declared.slice.Iter.{Iter}
 use Rattle.std.specs.declared.alloc.Global.{Global}
 use Rattle.miniserde_model.specs.Tree.{Tree, null, truth, str}
 use Rattle.miniserde_model.specs.Normal.{Rise}
+use Rattle.miniserde_model.specs.Tokens.{Token, leaf, array, array_end, object, object_end, tokens, child_tokens}
+use Rattle.miniserde_model.specs.Tokens.{member_tokens}
 use Rattle.miniserde_ser.specs.Trees.{trees_of, members_of}
 use Rattle.miniserde_value.specs.declared.json.value.Value.{Value}
 use Rattle.miniserde_value.specs.declared.json.value.Value.TheVariants as value
@@ -19,20 +21,18 @@ use Rattle.miniserde_value.specs.declared.json.number.Number.{Number}
 use Rattle.miniserde_value.specs.declared.json.number.Number.TheVariants as number
 use Rattle.miniserde_value.specs.Numbers.{number_leaf}
 use Rattle.miniserde_value.specs.Values.{array_items, object_entries, array_content, object_content, content_of}
-use Rattle.miniserde_value.specs.Visits.{TreeVisit, leaf, list_begins, list_ends, members_begin, members_end}
-use Rattle.miniserde_value.specs.Visits.{visits, child_visits, member_visits, IsOrdered, AreOrdered}
-use Rattle.miniserde_value.specs.Visits.{AreOrderedMembers}
+use Rattle.miniserde_value.specs.Tokens.{IsOrdered, AreOrdered, AreOrderedMembers}
 use Rattle.miniserde_value.specs.Walks.{items_left, members_left, ItemsNamesRise, ValuesNamesRise}
 use Rattle.miniserde_value.proofs.ContentTrees.{content_of_null, content_of_bool, content_of_number}
 use Rattle.miniserde_value.proofs.ContentTrees.{content_of_string, content_of_array, content_of_object}
 use Rattle.miniserde_value.proofs.Ordered.{ordered_rises}
 
--- ---- the first front of a value
+-- ---- the first token of a value
 
-number_visits : (n : Number) (rest : List TreeVisit) → visits (number_leaf n) rest ≡ leaf (number_leaf n) ∷ rest
-number_visits (number.U64 n) rest = refl
-number_visits (number.I64 z) rest = refl
-number_visits (number.Text x) rest = refl
+number_tokens : (n : Number) (rest : List Token) → tokens (number_leaf n) rest ≡ leaf (number_leaf n) ∷ rest
+number_tokens (number.U64 n) rest = refl
+number_tokens (number.I64 z) rest = refl
+number_tokens (number.Text x) rest = refl
 
 number_ordered : (n : Number) → IsOrdered (number_leaf n)
 number_ordered (number.U64 n) = tt
@@ -40,26 +40,26 @@ number_ordered (number.I64 z) = tt
 number_ordered (number.Text x) = tt
 
 -- a value of this shape
-at_content : (v : Value) (t : Tree) (rest more : List TreeVisit) → content_of v ≡ t → visits t rest ≡ more
-    → visits (content_of v) rest ≡ more
-at_content v t rest more e h = ap (λ (x : Tree). visits x rest) e ∙ h
+at_content : (v : Value) (t : Tree) (rest more : List Token) → content_of v ≡ t → tokens t rest ≡ more
+    → tokens (content_of v) rest ≡ more
+at_content v t rest more e h = ap (λ (x : Tree). tokens x rest) e ∙ h
 
--- the one visit of `Null` is the leaf null
-pub begin_null : (v : Value) (rest : List TreeVisit) → v ≡ value.Null → visits (content_of v) rest ≡ leaf null ∷ rest
+-- the one token of `Null` is the leaf null
+pub begin_null : (v : Value) (rest : List Token) → v ≡ value.Null → tokens (content_of v) rest ≡ leaf null ∷ rest
 begin_null v rest e = at_content v null rest _ (ap content_of e ∙ content_of_null) refl
 
--- the one visit of a boolean is its leaf
-pub begin_bool : (v : Value) (b : Bool) (rest : List TreeVisit) → v ≡ value.Bool b → visits (content_of v) rest ≡ leaf (truth b) ∷ rest
+-- the one token of a boolean is its leaf
+pub begin_bool : (v : Value) (b : Bool) (rest : List Token) → v ≡ value.Bool b → tokens (content_of v) rest ≡ leaf (truth b) ∷ rest
 begin_bool v b rest e = at_content v (truth b) rest _ (ap content_of e ∙ content_of_bool b) refl
 
--- the one visit of a number is its leaf
-pub begin_number : (v : Value) (n : Number) (rest : List TreeVisit) → v ≡ value.Number n
-    → visits (content_of v) rest ≡ leaf (number_leaf n) ∷ rest
-begin_number v n rest e = at_content v (number_leaf n) rest _ (ap content_of e ∙ content_of_number n) (number_visits n rest)
+-- the one token of a number is its leaf
+pub begin_number : (v : Value) (n : Number) (rest : List Token) → v ≡ value.Number n
+    → tokens (content_of v) rest ≡ leaf (number_leaf n) ∷ rest
+begin_number v n rest e = at_content v (number_leaf n) rest _ (ap content_of e ∙ content_of_number n) (number_tokens n rest)
 
--- the one visit of a string is its leaf
-pub begin_string : (v : Value) (s : String Global) (rest : List TreeVisit) → v ≡ value.String s
-    → visits (content_of v) rest ≡ leaf (str (string_bytes s)) ∷ rest
+-- the one token of a string is its leaf
+pub begin_string : (v : Value) (s : String Global) (rest : List Token) → v ≡ value.String s
+    → tokens (content_of v) rest ≡ leaf (str (string_bytes s)) ∷ rest
 begin_string v s rest e = at_content v (str (string_bytes s)) rest _ (ap content_of e ∙ content_of_string s) refl
 
 -- the tree of `Null` is ordered
@@ -80,23 +80,23 @@ ordered_string v s e = subst IsOrdered (sym (ap content_of e ∙ content_of_stri
 
 -- ---- a container is opened
 
--- the first visit of an array is its opening, and the visits of its items are left
-pub begin_array : (v : Value) (a : Array) (it : Iter Value) (rest more : List TreeVisit) → v ≡ value.Array a
-    → iter_rest it ≡ array_items a → more ≡ items_left it rest → visits (content_of v) rest ≡ list_begins ∷ more
+-- the first token of an array is its opening, and the tokens of its items are left
+pub begin_array : (v : Value) (a : Array) (it : Iter Value) (rest more : List Token) → v ≡ value.Array a
+    → iter_rest it ≡ array_items a → more ≡ items_left it rest → tokens (content_of v) rest ≡ array ∷ more
 begin_array v a it rest more e i m =
     at_content v (array_content a) rest _ (ap content_of e ∙ content_of_array a)
-    (ap (λ (xs : List Value). list_begins ∷ child_visits (trees_of content_of xs) (list_ends ∷ rest)) (sym i)
-    ∙ ap (λ (x : List TreeVisit). list_begins ∷ x) (sym m))
+    (ap (λ (xs : List Value). array ∷ child_tokens (trees_of content_of xs) (array_end ∷ rest)) (sym i)
+    ∙ ap (λ (x : List Token). array ∷ x) (sym m))
 
--- the first visit of an object is its opening, and the visits of its members are left
-pub begin_object : (v : Value) (o : Object) (it : List (String Global × Value)) (rest more : List TreeVisit)
+-- the first token of an object is its opening, and the tokens of its members are left
+pub begin_object : (v : Value) (o : Object) (it : List (String Global × Value)) (rest more : List Token)
     → v ≡ value.Object o → it ≡ object_entries o → more ≡ members_left it rest
-    → visits (content_of v) rest ≡ members_begin ∷ more
+    → tokens (content_of v) rest ≡ object ∷ more
 begin_object v o it rest more e i m =
     at_content v (object_content o) rest _ (ap content_of e ∙ content_of_object o)
     (ap (λ (xs : List (String Global × Value)).
-    members_begin ∷ member_visits (members_of string_bytes content_of xs) (members_end ∷ rest)) (sym i)
-    ∙ ap (λ (x : List TreeVisit). members_begin ∷ x) (sym m))
+    object ∷ member_tokens (members_of string_bytes content_of xs) (object_end ∷ rest)) (sym i)
+    ∙ ap (λ (x : List Token). object ∷ x) (sym m))
 
 -- if the items of an array are ordered, its tree is
 pub ordered_array : (v : Value) (a : Array) (it : Iter Value) → v ≡ value.Array a → iter_rest it ≡ array_items a

@@ -4,7 +4,7 @@ pub mod Values
 pub mod Rows
 pub mod Looks
 pub mod Hole
-pub mod Visits
+pub mod Tokens
 pub mod Containers
 pub mod Builders
 pub mod Walks

@@ -1,9 +1,8 @@
--- How a draft holds a state, and what canonical tokens do to a draft. A state (`State`) is the canonical text so far,
--- with the members of the open objects; canonical tokens (`CanonicalToken`) are leaves, brackets, names and elements'
--- beginnings.
+-- How a draft holds a state, and what the tokens of a tree do to a draft. A state (`State`) is the canonical text so far,
+-- with the members of the open objects.
 use Rattle.std.specs.Prelude.{◌≡◌, ℕ, true, false, List, ◌++◌, length, ⊤}
 use Rattle.miniserde_model.specs.private.Reading.{Moment, due, first, after}
-use Rattle.miniserde_canonical.specs.CanonicalToken.{CanonicalToken}
+use Rattle.miniserde_model.specs.Tokens.{Token}
 use Rattle.miniserde_canonical.specs.declared.draft.Draft.{Draft}
 use Rattle.miniserde_canonical.specs.declared.draft.InputSpan.{InputSpan}
 use Rattle.miniserde_canonical.specs.private.SplicedTexts.{SplicesInOrder, text_begin, text_from}
@@ -66,8 +65,8 @@ pub record DraftAt : Type 0 where
 abbrev pub draft_at : Moment → List ℕ → Draft → DraftAt
 draft_at m rest d = record { moment = m; rest = rest; draft = d }
 
--- From `old` to `new` the draft takes the canonical tokens ks: if the old draft holds s, and the flag `first` of s fits
+-- From `old` to `new` the draft takes the tokens ks: if the old draft holds s, and the flag `first` of s fits
 -- the old moment, then the new draft holds a state that is s after ks, and whose flag fits the new moment.
-abbrev pub DraftTakes : DraftAt → List CanonicalToken → DraftAt → Type 0
+abbrev pub DraftTakes : DraftAt → List Token → DraftAt → Type 0
 DraftTakes old ks new = (s : State) → Represents old.draft old.rest s → Recalls old.moment s
     → (s' : State) × TokenSteps ks s s' × Represents new.draft new.rest s' × Recalls new.moment s'

@@ -3,10 +3,10 @@ use Rattle.std.specs.Prelude.{◌≡◌, ◌<◌, ◌+◌, ◌-◌, ℕ, Bool, f
 use Rattle.std.specs.declared.cmp.Ordering.TheVariants.{Less}
 use Rattle.miniserde_model.specs.Tree.{Tree, Members, no_members, member}
 use Rattle.miniserde_model.specs.Normal.{text_cmp}
+use Rattle.miniserde_model.specs.Tokens.{comma_before}
 use Rattle.miniserde_canonical.specs.declared.spread.Point.{Point}
 use Rattle.miniserde_canonical.specs.declared.member.Member.{Member}
 use Rattle.miniserde_canonical.specs.private.MemberNames.{name_of}
-use Rattle.miniserde_canonical.specs.private.States.{comma_before}
 
 -- the name of the first of the members, or the empty text if there is none
 abbrev pub first_name : List Member → List ℕ

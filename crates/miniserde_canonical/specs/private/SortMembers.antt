@@ -3,6 +3,7 @@
 use Rattle.std.specs.Prelude.{◌≡◌, ◌≤◌, ◌+◌, ℕ, Bool, true, List, [], ◌∷◌, ◌++◌, length, take, drop, ⊤}
 use Rattle.miniserde_model.specs.Tree.{Tree, str}
 use Rattle.miniserde_model.specs.Normal.{norm_members}
+use Rattle.miniserde_model.specs.Tokens.{comma_before}
 use Rattle.miniserde_canonical.specs.declared.spread.Point.{Point}
 use Rattle.miniserde_canonical.specs.declared.spread.Splice.{Splice}
 use Rattle.miniserde_canonical.specs.declared.spread.SplicedText.{SplicedText}
@@ -10,7 +11,7 @@ use Rattle.miniserde_canonical.specs.declared.member.Member.{Member}
 use Rattle.miniserde_canonical.specs.private.SplicedTexts.{Holds, text_begin, TextFrom, text_from, FilledPart, AllBefore, SplicesInOrder}
 use Rattle.miniserde_canonical.specs.private.MemberNames.{name_of}
 use Rattle.miniserde_canonical.specs.private.Members.{begin_of, members_at, without_repeats}
-use Rattle.miniserde_canonical.specs.private.States.{MemberEntry, text_before, entry_members, comma_before, joined_texts, count, once_each}
+use Rattle.miniserde_canonical.specs.private.States.{MemberEntry, text_before, entry_members, joined_texts, count, once_each}
 
 -- The member n, which stands for the entry e, splits a text at the comma before it, or where it begins if it is the
 -- first of its object. B holds of the part before that point, and K of the part from the member on.

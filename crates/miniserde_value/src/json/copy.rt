@@ -3,8 +3,8 @@ ghost use Rattle.std.specs.Prelude.{◌≡◌, ◌∷◌, [], IfOk, OnOk, OnErr,
 ghost use Rattle.miniserde_model.specs.declared.error.Error.TheVariants.{Memory};
 ghost use Rattle.miniserde_value.specs.Values.{content_of, array_content, object_content};
 ghost use Rattle.miniserde_value.specs.Builders.{hole_in};
-ghost use Rattle.miniserde_value.specs.Visits.{hole_after};
-ghost use Rattle.miniserde_value.specs.Walks.{visit_of, left, NamesToComeRise};
+ghost use Rattle.miniserde_value.specs.Tokens.{hole_after};
+ghost use Rattle.miniserde_value.specs.Walks.{token_of, left, NamesToComeRise};
 
 use super::array::Array;
 use super::builder::Builder;
@@ -18,7 +18,7 @@ use std::alloc::Global;
 // Hands one visit of a walk to the builder, with a copy of its number or text. Returns `Memory` if
 // an allocation fails.
 fn add(alloc: Global, visit: Visit<'_>, builder: &mut Builder) -> Result<()>
-    ensures built { OnOk result (hole_in builder.new ≡ hole_after (hole_in builder.old) (visit_of visit.entry ∷ [])) }
+    ensures built { OnOk result (hole_in builder.new ≡ hole_after (hole_in builder.old) (token_of visit.entry ∷ [])) }
     ensures memory { OnErr result (IsErrOf result Memory) }
 {
     match visit {

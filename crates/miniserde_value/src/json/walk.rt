@@ -1,8 +1,10 @@
 //! The walk over a borrowed document: it visits all parts in order, without recursion.
 ghost use Rattle.std.specs.Prelude.{◌≡◌, ◌∷◌, [], None, IfOk, OnOk, MatchOption};
+ghost use Rattle.miniserde_model.specs.Tokens.{tokens};
+ghost use Rattle.miniserde_model.specs.Tokens as token;
 ghost use Rattle.miniserde_value.specs.Values.{content_of, array_content, object_content};
-ghost use Rattle.miniserde_value.specs.Visits.{visits, list_begins, members_begin, IsOrdered};
-ghost use Rattle.miniserde_value.specs.Walks.{visit_of, left, NamesToComeRise};
+ghost use Rattle.miniserde_value.specs.Tokens.{IsOrdered};
+ghost use Rattle.miniserde_value.specs.Walks.{token_of, left, NamesToComeRise};
 
 mod frames;
 
@@ -44,7 +46,7 @@ impl<'a> Walk<'a> {
     /// Returns a walk over the items of an array, with the array's end last. Fails if its stack
     /// fails to allocate.
     pub(crate) fn array(alloc: Global, array: &'a Array) -> result::Result<Walk<'a>, AllocError>
-        ensures left { IfOk result (λ w. list_begins ∷ left w ≡ visits (array_content array.entry.now) []) }
+        ensures left { IfOk result (λ w. token.array ∷ left w ≡ tokens (array_content array.entry.now) []) }
         ensures ordered { IfOk result (λ w. NamesToComeRise w → IsOrdered (array_content array.entry.now)) }
     {
         let mut frames = Frames::new(alloc);
@@ -55,7 +57,7 @@ impl<'a> Walk<'a> {
     /// Returns a walk over the members of an object, with the object's end last. Fails if its stack
     /// fails to allocate.
     pub(crate) fn object(alloc: Global, object: &'a Object) -> result::Result<Walk<'a>, AllocError>
-        ensures left { IfOk result (λ w. members_begin ∷ left w ≡ visits (object_content object.entry.now) []) }
+        ensures left { IfOk result (λ w. token.object ∷ left w ≡ tokens (object_content object.entry.now) []) }
         ensures ordered { IfOk result (λ w. NamesToComeRise w → IsOrdered (object_content object.entry.now)) }
     {
         let mut frames = Frames::new(alloc);
@@ -66,7 +68,7 @@ impl<'a> Walk<'a> {
     /// Returns the next visit, or `None` at the end of the walk. Fails if its stack fails to allocate.
     pub(crate) fn next(&mut self) -> result::Result<Option<Visit<'a>>, AllocError>
         ensures left { IfOk result (λ next. MatchOption next (left self.old ≡ [])
-            (λ f. left self.old ≡ visit_of f ∷ left self.new)) }
+            (λ f. left self.old ≡ token_of f ∷ left self.new)) }
         ensures ordered { IfOk result (λ next. MatchOption next (NamesToComeRise self.old)
             (λ _. NamesToComeRise self.new → NamesToComeRise self.old)) }
     {
@@ -83,7 +85,7 @@ impl<'a> Walk<'a> {
     // allocate.
     fn begin(&mut self, value: &'a Value) -> result::Result<Visit<'a>, AllocError>
         requires { self.old.due ≡ None }
-        ensures left { IfOk result (λ f. visits (content_of value.entry.now) (left self.old) ≡ visit_of f ∷ left self.new) }
+        ensures left { IfOk result (λ f. tokens (content_of value.entry.now) (left self.old) ≡ token_of f ∷ left self.new) }
         ensures ordered { OnOk result (NamesToComeRise self.new
             → IsOrdered (content_of value.entry.now) × NamesToComeRise self.old) }
     {
@@ -108,7 +110,7 @@ impl<'a> Walk<'a> {
     // `ordered` goes back from the end, where nothing is left: who walks to the end learns it of the whole document.
     fn next_in_container(&mut self) -> Option<Visit<'a>>
         requires { self.old.due ≡ None }
-        ensures left { MatchOption result (left self.old ≡ []) (λ f. left self.old ≡ visit_of f ∷ left self.new) }
+        ensures left { MatchOption result (left self.old ≡ []) (λ f. left self.old ≡ token_of f ∷ left self.new) }
         ensures ordered { MatchOption result (NamesToComeRise self.old)
             (λ _. NamesToComeRise self.new → NamesToComeRise self.old) }
     {

@@ -3,10 +3,11 @@ ghost use Rattle.std.specs.Prelude.{◌≡◌, ◌++◌, [], true, false, OnOk, 
 ghost use Rattle.miniserde_model.specs.InRange.{InRange};
 ghost use Rattle.miniserde_model.specs.Normal.{norm};
 ghost use Rattle.miniserde_model.specs.declared.error.Error.TheVariants.{Memory};
+ghost use Rattle.miniserde_model.specs.Tokens.{tokens};
 ghost use Rattle.miniserde_ser.specs.Fragment.{fragment_tree};
 ghost use Rattle.miniserde_value.specs.Numbers.{number_leaf};
 ghost use Rattle.miniserde_value.specs.Values.{content_of, array_content, object_content};
-ghost use Rattle.miniserde_value.specs.Visits.{visits, IsOrdered};
+ghost use Rattle.miniserde_value.specs.Tokens.{IsOrdered};
 ghost use Rattle.miniserde_value.specs.Walks.{frames_left, NestedNamesRise};
 ghost use Rattle.miniserde_value.specs.Writes.{Writes};
 
@@ -40,7 +41,7 @@ impl Number {
 // or an earlier call of the writer failed.
 #[inline(always)]
 fn begin_array<'a>(array: &'a Array, frames: &mut Frames<'a>, w: &mut Writer) -> Result<()>
-    ensures ok { OnOk result (Writes w.old (visits (array_content array.entry.now) (frames_left frames.old))
+    ensures ok { OnOk result (Writes w.old (tokens (array_content array.entry.now) (frames_left frames.old))
         w.new (frames_left frames.new)) }
     ensures ordered { OnOk result (NestedNamesRise frames.new
         → IsOrdered (array_content array.entry.now) × NestedNamesRise frames.old) }
@@ -57,7 +58,7 @@ fn begin_array<'a>(array: &'a Array, frames: &mut Frames<'a>, w: &mut Writer) ->
 // fails or an earlier call of the writer failed.
 #[inline(always)]
 fn begin_object<'a>(object: &'a Object, frames: &mut Frames<'a>, w: &mut Writer) -> Result<()>
-    ensures ok { OnOk result (Writes w.old (visits (object_content object.entry.now) (frames_left frames.old))
+    ensures ok { OnOk result (Writes w.old (tokens (object_content object.entry.now) (frames_left frames.old))
         w.new (frames_left frames.new)) }
     ensures ordered { OnOk result (NestedNamesRise frames.new
         → IsOrdered (object_content object.entry.now) × NestedNamesRise frames.old) }
@@ -74,7 +75,7 @@ fn begin_object<'a>(object: &'a Object, frames: &mut Frames<'a>, w: &mut Writer)
 // which `put_all` writes the children. Returns `Memory` if an allocation fails or an earlier call of the writer failed.
 #[inline(always)]
 fn begin_value<'a>(value: &'a Value, frames: &mut Frames<'a>, w: &mut Writer) -> Result<()>
-    ensures ok { OnOk result (Writes w.old (visits (content_of value.entry.now) (frames_left frames.old))
+    ensures ok { OnOk result (Writes w.old (tokens (content_of value.entry.now) (frames_left frames.old))
         w.new (frames_left frames.new)) }
     ensures ordered { OnOk result (NestedNamesRise frames.new
         → IsOrdered (content_of value.entry.now) × NestedNamesRise frames.old) }

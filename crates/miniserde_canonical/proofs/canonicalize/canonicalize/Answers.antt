@@ -1,6 +1,6 @@
 -- The draft holds the canonical text, with the groups in its splices (`held`). It is the compact text of a tree, so it
 -- is UTF-8.
-use Rattle.std.proofs.Common.{rules, IsUtf8, sym, subst, ◌∙◌}
+use Rattle.std.proofs.Common.{rules, IsUtf8, [], sym, subst, ◌∙◌}
 use Rattle.std.proofs.lemmas.Result.{err_from_is_err_and}
 use Rattle.miniserde_model.specs.Tree.{Tree}
 use Rattle.miniserde_model.specs.Compact.{compact}
@@ -9,7 +9,7 @@ use Rattle.miniserde_model.proofs.Accepted.{json_tree}
 use Rattle.miniserde_model.proofs.Normal.{norm_tree}
 use Rattle.miniserde_model.proofs.Utf8.{json_utf8}
 use Rattle.miniserde_model.proofs.Written.{written}
-use Rattle.miniserde_canonical.specs.CanonicalToken.{tokens}
+use Rattle.miniserde_model.specs.Tokens.{tokens}
 use Rattle.miniserde_canonical.specs.declared.draft.Draft.{Draft}
 use Rattle.miniserde_canonical.specs.private.States.{State, TokenSteps, initial_state}
 use Rattle.miniserde_canonical.specs.private.Drafts.{Holding}
@@ -18,7 +18,7 @@ use Rattle.miniserde_canonical.proofs.TreeRuns.{steps_make}
 use Rattle.miniserde_canonical.proofs.DraftSteps.{holds_whole}
 use Rattle.miniserde_canonical.proofs.canonicalize.canonicalize.Goals as goal
 
-held : (d : Draft) (t : Tree) (s : State) → TokenSteps (tokens t) initial_state s → Holding d d.out.bytes.items s
+held : (d : Draft) (t : Tree) (s : State) → TokenSteps (tokens t []) initial_state s → Holding d d.out.bytes.items s
     → FilledText d.groups d.out (compact (norm t))
 held d t s r h =
     let m = steps_make t s r in

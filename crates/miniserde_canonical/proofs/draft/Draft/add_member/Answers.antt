@@ -2,10 +2,10 @@
 -- (`holding_begun`), and `spell` changes the text and the run alone (`keep_holding`).
 use Rattle.std.proofs.Common.{rules, ◌≡◌, ◌+◌, length, [], ◌∷◌, ◌++◌, refl, sym, ap, ◌∙◌, arith}
 use Rattle.miniserde_model.specs.Compact.{string_text}
+use Rattle.miniserde_model.specs.Tokens.{comma_before}
 use Rattle.miniserde_text.specs.Lexer.{text_of}
 use Rattle.miniserde_canonical.specs.declared.spread.Point.{Point}
 use Rattle.miniserde_canonical.specs.private.MemberNames.{name_of}
-use Rattle.miniserde_canonical.specs.private.States.{comma_before}
 use Rattle.miniserde_canonical.proofs.DraftSteps.{keep_holding, holding_begun}
 use Rattle.miniserde_canonical.proofs.InputRuns.{run_length}
 use Rattle.miniserde_canonical.proofs.draft.Draft.add_member.Goals as goal

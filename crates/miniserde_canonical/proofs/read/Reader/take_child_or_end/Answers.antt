@@ -7,9 +7,9 @@ use Rattle.std.specs.String.{string_bytes}
 use Rattle.miniserde_model.specs.Lexing.{Follows, closing}
 use Rattle.miniserde_model.specs.private.Reading.{after}
 use Rattle.miniserde_text.specs.Lexer.{text_of, is_close}
-use Rattle.miniserde_canonical.specs.CanonicalToken.{name, element}
+use Rattle.miniserde_model.specs.Tokens.{name, element, comma_before}
 use Rattle.miniserde_text.specs.private.Moments.{first_or_after}
-use Rattle.miniserde_canonical.specs.private.States.{comma_before, State, TokenStep}
+use Rattle.miniserde_canonical.specs.private.States.{State, TokenStep}
 use Rattle.miniserde_canonical.specs.private.Drafts.{Wrote, Holding, Represents, draft_at, DraftTakes}
 use Rattle.miniserde_canonical.specs.private.EventTokens.{end_token}
 use Rattle.miniserde_text.proofs.Consumes.{after_ends, name_ends}

@@ -1,4 +1,4 @@
--- The copied leaf has the tree of the visit, by the equation of each variant in `ContentTrees.antt`.
+-- The copied leaf has the tree of the token, by the equation of each variant in `ContentTrees.antt`.
 use Rattle.std.proofs.Common.{rules}
 use Rattle.miniserde_value.proofs.ContentTrees.{content_of_null, content_of_bool, content_of_number, content_of_string}
 use Rattle.miniserde_value.proofs.json.copy.add.Goals as goal

@@ -1,8 +1,8 @@
--- The loop keeps the hole after all visits that are left, and that the names of the whole walk are in order if those
--- of the visits left are. Each turn takes one visit.
+-- The loop keeps the hole after all tokens that are left, and that the names of the whole walk are in order if those
+-- of the tokens left are. Each turn takes one visit.
 use Rattle.std.proofs.Common.{◌≡◌, length}
 use Rattle.miniserde_value.specs.Builders.{hole_in}
-use Rattle.miniserde_value.specs.Visits.{hole_after}
+use Rattle.miniserde_value.specs.Tokens.{hole_after}
 use Rattle.miniserde_value.specs.Walks.{left, NamesToComeRise}
 use Rattle.miniserde_value.proofs.json.copy.add_all.Given as goal
 

@@ -1,6 +1,6 @@
 -- The map of an object has its names in order.
 use Rattle.miniserde_value.specs.Values.{object_content}
-use Rattle.miniserde_value.specs.Visits.{IsOrdered}
+use Rattle.miniserde_value.specs.Tokens.{IsOrdered}
 use Rattle.miniserde_value.specs.Walks.{NestedNamesRise}
 use Rattle.miniserde_value.proofs.Walks.{Opened, ordered_opened}
 use Rattle.miniserde_value.proofs.Written.{on_ok_of}

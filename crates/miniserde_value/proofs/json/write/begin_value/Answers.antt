@@ -1,11 +1,11 @@
--- `begin_value` writes the first visit of a value, and leaves the other visits to the frames. By cases of the variant:
+-- `begin_value` writes the first token of a value, and leaves the other tokens to the frames. By cases of the variant:
 -- a leaf is `on_leaf`, an array is `begin_array` and an object is `begin_object`.
 use Rattle.std.proofs.Common.{◌≡◌, ℕ, List, ◌∷◌, refl, sym, ap, subst, ◌∙◌}
 use Rattle.std.proofs.lemmas.Result.{on_ok_weaker}
 use Rattle.miniserde_model.specs.Tree.{str}
 use Rattle.miniserde_model.specs.InRange.{InRange}
+use Rattle.miniserde_model.specs.Tokens.{leaf}
 use Rattle.miniserde_value.specs.Values.{content_of, array_content, object_content}
-use Rattle.miniserde_value.specs.Visits.{leaf}
 use Rattle.miniserde_value.specs.Walks.{frames_left}
 use Rattle.miniserde_value.proofs.Walks.{begin_null, begin_bool, begin_number, begin_string, ordered_null}
 use Rattle.miniserde_value.proofs.Walks.{ordered_bool, ordered_number, ordered_string}

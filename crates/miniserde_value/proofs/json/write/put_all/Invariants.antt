@@ -1,5 +1,5 @@
--- The loop keeps the text so far followed by the text of the visits left (`Writes`), and that the names of all visits
--- are in order if those left are. Each turn takes one visit or more.
+-- The loop keeps the text so far followed by the text of the tokens left (`Writes`), and that the names of all tokens
+-- are in order if those left are. Each turn takes one token or more.
 use Rattle.std.proofs.Common.{length}
 use Rattle.miniserde_value.specs.Walks.{frames_left, NestedNamesRise}
 use Rattle.miniserde_value.specs.Writes.{Writes}

@@ -1,4 +1,4 @@
--- The builder opened an object and took its other visits in order, so it has the tree of the object
+-- The builder opened an object and took its other tokens in order, so it has the tree of the object
 -- (`object_copied`). Its value is there, is an object, and has that content.
 use Rattle.std.proofs.Common.{sym, ap, ◌∙◌, Some, None, is_some, true≢false}
 use Rattle.std.proofs.lemmas.Option.{same_Some}

@@ -1,14 +1,14 @@
--- `begin` returns the first visit of a value, and the walk has the other visits of the value left. By cases of the
+-- `begin` returns the first token of a value, and the walk has the other tokens of the value left. By cases of the
 -- variant, each with a lemma of `Walks.antt`.
 use Rattle.std.proofs.Common.{rules, ◌≡◌, ℕ, List, ◌∷◌, Option, sym, ap, ◌∙◌}
 use Rattle.std.specs.Prelude.{Vec}
 use Rattle.std.specs.declared.alloc.Global.{Global}
 use Rattle.miniserde_model.specs.Tree.{str}
+use Rattle.miniserde_model.specs.Tokens.{leaf, tokens, array, object}
 use Rattle.std.specs.Borrow.{Bor}
 use Rattle.std.specs.Slice.Iter.{iter_rest}
 use Rattle.miniserde_value.specs.declared.json.value.Value.{Value}
 use Rattle.miniserde_value.specs.Values.{array_items, content_of}
-use Rattle.miniserde_value.specs.Visits.{leaf, visits, list_begins, members_begin}
 use Rattle.miniserde_value.specs.Walks.{left, frames_left, due_left}
 use Rattle.miniserde_value.proofs.Walks.{begin_null, begin_bool, begin_number, begin_string, begin_array}
 use Rattle.miniserde_value.proofs.Walks.{begin_object, ordered_null, ordered_bool, ordered_number, ordered_string}
@@ -44,10 +44,10 @@ pub returns-in_ok-push_array-in-Array-clause-left : goal.returns-in_ok-push_arra
 returns-in_ok-push_array-in-Array-clause-left c =
     let items : iter_rest c.iter.result ≡ array_items c.in-Array.array =
     c.iter.ensures.rest ∙ c.deref.ensures.value ∙ ap (λ (v : Vec Value Global). v.items) c.inner.ensures in
-    ap (λ (d : Option (Bor Value)). visits (content_of c.args.value.now) (due_left d (frames_left c.args.self.now.frames))) c.requires
+    ap (λ (d : Option (Bor Value)). tokens (content_of c.args.value.now) (due_left d (frames_left c.args.self.now.frames))) c.requires
     ∙ begin_array c.args.value.now _ c.iter.result _ (frames_left c.push_array.new.self) c.in-Array.is items
     c.in_ok-push_array-in-Array.ensures.left
-    ∙ ap (λ (d : Option (Bor Value)). list_begins ∷ due_left d (frames_left c.push_array.new.self)) (sym c.requires)
+    ∙ ap (λ (d : Option (Bor Value)). array ∷ due_left d (frames_left c.push_array.new.self)) (sym c.requires)
 
 pub returns-in_ok-push_array-in-Array-clause-ordered : goal.returns-in_ok-push_array-in-Array-clause-ordered
 returns-in_ok-push_array-in-Array-clause-ordered c =
@@ -58,10 +58,10 @@ returns-in_ok-push_array-in-Array-clause-ordered c =
 
 pub returns-in_ok-push_object-in-Object-clause-left : goal.returns-in_ok-push_object-in-Object-clause-left
 returns-in_ok-push_object-in-Object-clause-left c =
-    ap (λ (d : Option (Bor Value)). visits (content_of c.args.value.now) (due_left d (frames_left c.args.self.now.frames))) c.requires
+    ap (λ (d : Option (Bor Value)). tokens (content_of c.args.value.now) (due_left d (frames_left c.args.self.now.frames))) c.requires
     ∙ begin_object c.args.value.now _ c.iter-in-Object.result _ (frames_left c.push_object.new.self) c.in-Object.is
     (search rules) c.in_ok-push_object-in-Object.ensures.left
-    ∙ ap (λ (d : Option (Bor Value)). members_begin ∷ due_left d (frames_left c.push_object.new.self)) (sym c.requires)
+    ∙ ap (λ (d : Option (Bor Value)). object ∷ due_left d (frames_left c.push_object.new.self)) (sym c.requires)
 
 pub returns-in_ok-push_object-in-Object-clause-ordered : goal.returns-in_ok-push_object-in-Object-clause-ordered
 returns-in_ok-push_object-in-Object-clause-ordered c =

@@ -1,8 +1,8 @@
 -- `begin` writes the compact text of the array's normal form. `begin_array` writes the opening, `put_all` writes the
--- visits left, and `text_wrote` joins both.
+-- tokens left, and `text_wrote` joins both.
 use Rattle.std.proofs.Common.{[], subst}
 use Rattle.std.proofs.lemmas.Result.{on_ok_weaker}
-use Rattle.miniserde_value.specs.Visits.{visits}
+use Rattle.miniserde_model.specs.Tokens.{tokens}
 use Rattle.miniserde_value.specs.Values.{array_content}
 use Rattle.miniserde_value.specs.Walks.{frames_left}
 use Rattle.miniserde_value.specs.Writes.{Writes}
@@ -14,8 +14,8 @@ pub returns-clause-ok : goal.returns-clause-ok
 returns-clause-ok c =
     let t = array_content c.args.self.now in
     let left = frames_left c.begin_array.new.frames in
-    let begun : Writes c.args.w.now (visits t []) c.begin_array.new.w left =
-    subst (λ x. Writes c.args.w.now (visits t x) c.begin_array.new.w left) c.new-frames.ensures.left
+    let begun : Writes c.args.w.now (tokens t []) c.begin_array.new.w left =
+    subst (λ x. Writes c.args.w.now (tokens t x) c.begin_array.new.w left) c.new-frames.ensures.left
     c.in_ok-begin_array.ensures.ok in
     on_ok_both c.put_all.result
     (λ ended order. text_wrote t c.args.w.now c.begin_array.new.w c.put_all.new.w left
@@ -26,8 +26,8 @@ pub returns-clause-in_range : goal.returns-clause-in_range
 returns-clause-in_range c =
     let t = array_content c.args.self.now in
     let left = frames_left c.begin_array.new.frames in
-    let begun : Writes c.args.w.now (visits t []) c.begin_array.new.w left =
-    subst (λ x. Writes c.args.w.now (visits t x) c.begin_array.new.w left) c.new-frames.ensures.left
+    let begun : Writes c.args.w.now (tokens t []) c.begin_array.new.w left =
+    subst (λ x. Writes c.args.w.now (tokens t x) c.begin_array.new.w left) c.new-frames.ensures.left
     c.in_ok-begin_array.ensures.ok in
     on_ok_weaker c.put_all.result
     (λ ended. tree_wrote t c.args.w.now c.begin_array.new.w c.put_all.new.w left
@@ -37,8 +37,8 @@ pub returns-clause-normal : goal.returns-clause-normal
 returns-clause-normal c =
     let t = array_content c.args.self.now in
     let left = frames_left c.begin_array.new.frames in
-    let begun : Writes c.args.w.now (visits t []) c.begin_array.new.w left =
-    subst (λ x. Writes c.args.w.now (visits t x) c.begin_array.new.w left) c.new-frames.ensures.left
+    let begun : Writes c.args.w.now (tokens t []) c.begin_array.new.w left =
+    subst (λ x. Writes c.args.w.now (tokens t x) c.begin_array.new.w left) c.new-frames.ensures.left
     c.in_ok-begin_array.ensures.ok in
     on_ok_weaker c.put_all.result
     (λ ended. normal_wrote t c.args.w.now c.begin_array.new.w c.put_all.new.w left
@@ -48,8 +48,8 @@ pub returns-clause-first : goal.returns-clause-first
 returns-clause-first c =
     let t = array_content c.args.self.now in
     let left = frames_left c.begin_array.new.frames in
-    let begun : Writes c.args.w.now (visits t []) c.begin_array.new.w left =
-    subst (λ x. Writes c.args.w.now (visits t x) c.begin_array.new.w left) c.new-frames.ensures.left
+    let begun : Writes c.args.w.now (tokens t []) c.begin_array.new.w left =
+    subst (λ x. Writes c.args.w.now (tokens t x) c.begin_array.new.w left) c.new-frames.ensures.left
     c.in_ok-begin_array.ensures.ok in
     on_ok_weaker c.put_all.result
     (λ ended. first_wrote t c.args.w.now c.begin_array.new.w c.put_all.new.w left

@@ -1,4 +1,4 @@
--- `next` returns the first visit that the innermost container has left. By cases: an item, a member or the end of an
+-- `next` returns the first token that the innermost container has left. By cases: an item, a member or the end of an
 -- object, each with a lemma of `Frames.antt`.
 use Rattle.std.proofs.Common.{◌-◌, set, refl, arith}
 use Rattle.std.specs.Vec.{vec_len}
