@@ -232,8 +232,8 @@ stands_behind s m r b p =
       part = p.part;
       text =
           b.text ∙ ap (λ z. b.space ++ z) p.text ∙ sym (append_assoc b.space p.space (p.part ++ r));
-      is_space =
-          space_append b.space p.space b.white p.is_space;
+      white =
+          space_append b.space p.space b.white p.white;
       is_part = p.is_part;
     }
 
@@ -255,8 +255,8 @@ follows_behind k false false s m r b p = stands_behind s m r b p
 stands_at : {P : List ℕ → Type 0} (s m r : List ℕ) → Blank s m → (p : Stands P s r) → StopsAt is_space (p.part ++ r) → Stands P m r
 stands_at s m r b p h =
     let same = same_run is_space b.space p.space m (p.part ++ r) (whitespace_passes b.space b.white)
-    (whitespace_passes p.space p.is_space) b.stops h (sym b.text ∙ p.text) in
-    record { space = []; part = p.part; text = same.1; is_space = tt; is_part = p.is_part }
+    (whitespace_passes p.space p.white) b.stops h (sym b.text ∙ p.text) in
+    record { space = []; part = p.part; text = same.1; white = tt; is_part = p.is_part }
 
 -- if m is s without its first whitespace and s begins with a value's first token, so does m
 pub starts_at : (s m : List ℕ) (e : Step) (r : List ℕ) → Blank s m → Starts s e r → Starts m e r

@@ -25,7 +25,7 @@ pub record FoundValue (es : List Step) (st : List Kind) (b : List ℕ) : Type 0 
   pub rest : List ℕ
   pub is : es ≡ events found ++ left
   pub text : b ≡ space ++ (value ++ rest)
-  pub is_space : IsWhitespace space
+  pub white : IsWhitespace space
   pub is_value : IsValue found value
   pub is_rest : Spells after left st rest
 
@@ -48,7 +48,7 @@ pub record FoundMore (es : List Step) (st : List Kind) (b : List ℕ) : Type 0 w
   rest : List ℕ
   is : es ≡ child_events found ++ finish ∷ left
   text : b ≡ space ++ (more ++ 93 ∷ rest)
-  is_space : IsWhitespace space
+  white : IsWhitespace space
   is_more : AreMoreElements found more
   is_rest : Spells after left st rest
 
@@ -71,7 +71,7 @@ pub record FoundMoreMembers (es : List Step) (st : List Kind) (b : List ℕ) : T
   rest : List ℕ
   is : es ≡ member_events found ++ finish ∷ left
   text : b ≡ space ++ (more ++ 125 ∷ rest)
-  is_space : IsWhitespace space
+  white : IsWhitespace space
   is_more : AreMoreMembers found more
   is_rest : Spells after left st rest
 
@@ -114,7 +114,7 @@ named name x part y h p v =
               is_before = h;
               is_inner =
                   p.is_spelled;
-              is_after = p.is_space;
+              is_after = p.white;
             };
         is_value = v;
       },
@@ -147,7 +147,7 @@ mutual
         is = refl;
         text =
             p.text;
-        is_space = p.is_space;
+        white = p.white;
         is_value = p.is_part;
         is_rest = p.is_rest;
       }
@@ -161,7 +161,7 @@ mutual
         is = refl;
         text =
             p.text;
-        is_space = p.is_space;
+        white = p.white;
         is_value = p.is_part;
         is_rest = p.is_rest;
       }
@@ -175,7 +175,7 @@ mutual
         is = refl;
         text =
             p.text;
-        is_space = p.is_space;
+        white = p.white;
         is_value = p.is_part;
         is_rest = p.is_rest;
       }
@@ -189,7 +189,7 @@ mutual
         is = refl;
         text =
             p.text;
-        is_space = p.is_space;
+        white = p.white;
         is_value = p.is_part;
         is_rest = p.is_rest;
       }
@@ -203,7 +203,7 @@ mutual
         is = refl;
         text =
             p.text;
-        is_space = p.is_space;
+        white = p.white;
         is_value = p.is_part;
         is_rest = p.is_rest;
       }
@@ -217,7 +217,7 @@ mutual
         is = refl;
         text =
             p.text;
-        is_space = p.is_space;
+        white = p.white;
         is_value = p.is_part;
         is_rest = p.is_rest;
       }
@@ -232,8 +232,8 @@ mutual
             f.rest;
         is = ap (λ z. seq ∷ z) (f.is ∙ sym (append_assoc (child_events f.found) (finish ∷ []) f.left));
         text = opened 93 p f.inside f.rest f.text;
-        is_space =
-            p.is_space;
+        white =
+            p.white;
         is_value = record { inside = f.inside; text = refl; is_inside = f.is_inside };
         is_rest =
             f.is_rest;
@@ -249,8 +249,8 @@ mutual
             f.rest;
         is = ap (λ z. map ∷ z) (f.is ∙ sym (append_assoc (member_events f.found) (finish ∷ []) f.left));
         text = opened 125 p f.inside f.rest f.text;
-        is_space =
-            p.is_space;
+        white =
+            p.white;
         is_value = record { inside = f.inside; text = refl; is_inside = f.is_inside };
         is_rest =
             f.is_rest;
@@ -270,7 +270,7 @@ mutual
         is = refl;
         text =
             p.text ∙ ap (λ z. p.space ++ (z ++ p.rest)) p.is_part;
-        is_inside = p.is_space;
+        is_inside = p.white;
         is_rest = p.is_rest;
       }
   find_elements (suc n) (element ∷ es) st b h p =
@@ -290,7 +290,7 @@ mutual
               rest = m.more;
               text = refl;
               is_first =
-                  padded v.found v.space v.value m.space v.is_space v.is_value m.is_space;
+                  padded v.found v.space v.value m.space v.white v.is_value m.white;
               is_rest = m.is_more;
             };
         is_rest = m.is_rest;
@@ -309,7 +309,7 @@ mutual
         is = refl;
         text =
             p.text ∙ ap (λ z. p.space ++ (z ++ p.rest)) p.is_part;
-        is_space = p.is_space;
+        white = p.white;
         is_more = refl;
         is_rest =
             p.is_rest;
@@ -329,8 +329,8 @@ mutual
             events_joined element (events v.found) (child_events m.found) m.left v.is m.is;
         text =
             comma_text p (c ++ 93 ∷ m.rest) tail;
-        is_space =
-            p.is_space;
+        white =
+            p.white;
         is_more = (
           c,
           refl,
@@ -339,7 +339,7 @@ mutual
             rest = m.more;
             text = refl;
             is_first =
-                padded v.found v.space v.value m.space v.is_space v.is_value m.is_space;
+                padded v.found v.space v.value m.space v.white v.is_value m.white;
             is_rest = m.is_more;
           },
         );
@@ -359,14 +359,14 @@ mutual
         is = refl;
         text =
             p.text ∙ ap (λ z. p.space ++ (z ++ p.rest)) p.is_part;
-        is_inside = p.is_space;
+        is_inside = p.white;
         is_rest = p.is_rest;
       }
   find_members (suc n) (key s ∷ es) st b h p =
       let v = find_value n es (Map ∷ st) p.rest (omega arith) p.is_rest in
       let m = find_more_members n v.left st v.rest (shorter n es _ p.rest v (omega arith)) v.is_rest in
-      let d = named s p.space p.part (v.space ++ (v.value ++ m.space)) p.is_space p.is_part
-      (padded v.found v.space v.value m.space v.is_space v.is_value m.is_space) in
+      let d = named s p.space p.part (v.space ++ (v.value ++ m.space)) p.white p.is_part
+      (padded v.found v.space v.value m.space v.white v.is_value m.white) in
       record {
         found = member s v.found m.found;
         left = m.left;
@@ -397,7 +397,7 @@ mutual
         is = refl;
         text =
             p.text ∙ ap (λ z. p.space ++ (z ++ p.rest)) p.is_part;
-        is_space = p.is_space;
+        white = p.white;
         is_more = refl;
         is_rest =
             p.is_rest;
@@ -406,8 +406,8 @@ mutual
       let p = q.is_rest in
       let v = find_value n es (Map ∷ st) p.rest (omega arith) p.is_rest in
       let m = find_more_members n v.left st v.rest (shorter n es _ p.rest v (omega arith)) v.is_rest in
-      let d = named s p.space p.part (v.space ++ (v.value ++ m.space)) p.is_space p.is_part
-      (padded v.found v.space v.value m.space v.is_space v.is_value m.is_space) in
+      let d = named s p.space p.part (v.space ++ (v.value ++ m.space)) p.white p.is_part
+      (padded v.found v.space v.value m.space v.white v.is_value m.white) in
       let tail : q.rest ≡ (d.0 ++ m.more) ++ 125 ∷ m.rest =
       joined_member 125 p (v.space ++ (v.value ++ m.space)) m.more m.rest d.2
       (joined 125 v m.space m.more m.rest m.text) in
@@ -420,7 +420,7 @@ mutual
             m.rest;
         is = events_joined (key s) (events v.found) (member_events m.found) m.left v.is m.is;
         text = comma_text q ((d.0 ++ m.more) ++ 125 ∷ m.rest) tail;
-        is_space = q.is_space;
+        white = q.white;
         is_more = (
           d.0 ++ m.more,
           refl,
@@ -460,7 +460,7 @@ spells_json es b p =
         after = v.rest;
         text = v.text;
         is_before =
-            v.is_space;
+            v.white;
         is_inner = v.is_value;
         is_after = end.1;
       },

@@ -32,7 +32,7 @@ record AtFront (c : ℕ) (r : List ℕ) (t : Tree) : Type 0 where
   space : List ℕ
   text : c ∷ r ≡ value ++ space
   is_value : IsValue t value
-  is_space : IsWhitespace space
+  white : IsWhitespace space
   of_kind : leading_kind c ≡ kind t
 
 value_kind : (t : Tree) (c : ℕ) (r v x : List ℕ) → IsValue t v → c ∷ r ≡ v ++ x → leading_kind c ≡ kind t
@@ -51,7 +51,7 @@ at_front c r t s p =
       space = p.after;
       text = split.1;
       is_value = p.is_inner;
-      is_space =
+      white =
           p.is_after;
       of_kind = value_kind t c r p.inner p.after p.is_inner split.1;
     }
@@ -82,7 +82,7 @@ whole_number c r t k h p =
     let e : f.value ++ (f.space ++ []) ≡ (c ∷ r) ++ [] = ap (λ z. f.value ++ z) (append-nil f.space) ∙ sym f.text
     ∙ sym (append-nil (c ∷ r)) in
     let run = same_run is_number_byte f.value (c ∷ r) (f.space ++ []) [] (number_pass f.value n) h
-    (space_ends_number f.space [] f.is_space tt) tt e in
+    (space_ends_number f.space [] f.white tt) tt e in
     subst IsNumberText run.0 n
 
 unsigned : (c : ℕ) (r m w : List ℕ) → IsMinus m → (c ≡ 45 → ⊥) → c ∷ r ≡ m ++ w → c ∷ r ≡ w
@@ -147,7 +147,7 @@ front_byte : (c d : ℕ) (r : List ℕ) (K : List ℕ → Type 0) → is_space c
     → StandsThen (IsByte d) K (c ∷ r) → (c ≡ d) × K r
 front_byte c d r K hc hd p =
     let stop : StopsAt is_space (p.part ++ p.rest) = rw (p.is_part) hd in
-    let split = same_run is_space [] p.space (c ∷ r) (p.part ++ p.rest) tt (whitespace_passes p.space p.is_space) hc stop p.text in
+    let split = same_run is_space [] p.space (c ∷ r) (p.part ++ p.rest) tt (whitespace_passes p.space p.white) hc stop p.text in
     let f : ◌≡◌ {A = List ℕ} (c ∷ r) (d ∷ p.rest) = split.1 ∙ ap (λ z. z ++ p.rest) p.is_part in
     let rest : r ≡ p.rest = cc in
     (cc, subst K (sym rest) p.is_rest)
@@ -156,7 +156,7 @@ no_value_due : (c : ℕ) (r : List ℕ) (es : List Step) (st : List Kind) → is
     → Spells due es st (c ∷ r) → ⊥
 no_value_due c r es st s k p =
     let v = find_value (length es) es st (c ∷ r) (omega arith) p in
-    let split = same_run is_space [] v.space (c ∷ r) (v.value ++ v.rest) tt (whitespace_passes v.space v.is_space) s
+    let split = same_run is_space [] v.space (c ∷ r) (v.value ++ v.rest) tt (whitespace_passes v.space v.white) s
     ((value_heads v.found).no_space v.value v.rest v.is_value) v.text in
     omega (arith, k, value_kind v.found c r v.value v.rest v.is_value split.1, kind_below v.found)
 
@@ -192,7 +192,7 @@ value_comma : (t : Tree) (b r : List ℕ) (es : List Step) (st : List Kind) → 
     → Spells due es (Seq ∷ st) (b ++ 44 ∷ r) → (left : List Step) × Spells due left (Seq ∷ st) r
 value_comma t b r es st v p =
     let f = find_value (length es) es (Seq ∷ st) (b ++ 44 ∷ r) (omega arith) p in
-    let front = same_run is_space [] f.space (b ++ 44 ∷ r) (f.value ++ f.rest) tt (whitespace_passes f.space f.is_space)
+    let front = same_run is_space [] f.space (b ++ 44 ∷ r) (f.value ++ f.rest) tt (whitespace_passes f.space f.white)
     ((value_heads t).no_space b (44 ∷ r) v) ((value_heads f.found).no_space f.value f.rest f.is_value) f.text in
     let same = same_value t f.found b f.value (44 ∷ r) f.rest v f.is_value refl
     (element_stops f.left st f.rest f.is_rest) front.1 in

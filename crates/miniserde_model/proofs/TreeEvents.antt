@@ -31,8 +31,8 @@ front_space w b h p = record {
   rest = p.rest;
   text =
       ap (λ z. w ++ z) p.text ∙ sym (append_assoc w p.space (p.part ++ p.rest));
-  is_space =
-      space_append w p.space h p.is_space;
+  white =
+      space_append w p.space h p.white;
   is_part = p.is_part;
   is_rest = p.is_rest;
 }
@@ -60,14 +60,14 @@ after_space _ _ w b h p = absurd p
 
 -- a text that is a part and then a rest, without whitespace before the part
 pub at_front : {P K : List ℕ → Type 0} (v r b : List ℕ) → P v → K r → b ≡ v ++ r → StandsThen P K b
-at_front v r b p k e = record { space = []; part = v; rest = r; text = e; is_space = tt; is_part = p; is_rest = k }
+at_front v r b p k e = record { space = []; part = v; rest = r; text = e; white = tt; is_part = p; is_rest = k }
 
 -- in front of a byte that is part of no number, no number goes on
 pub front_byte_stops : (c : ℕ) (K : List ℕ → Type 0) (b : List ℕ) → goes_on c ≡ false → StandsThen (IsByte c) K b
     → StopsAt is_number_byte b
 front_byte_stops c K b h p =
     subst (StopsAt is_number_byte) (sym (p.text ∙ ap (λ z. p.space ++ (z ++ p.rest)) p.is_part))
-    (space_ends_number p.space (c ∷ p.rest) p.is_space h)
+    (space_ends_number p.space (c ∷ p.rest) p.white h)
 
 -- an element, from what follows its value
 spaced_due : {P : List ℕ → Type 0} (es more : List Step) (st : List Kind) {a : List ℕ} (r : List ℕ) (p : Spaced P a)
@@ -102,7 +102,7 @@ named_front s a r p k =
       part = n.inner ++ (n.after ++ 58 ∷ []);
       rest = p.value ++ r;
       text = split;
-      is_space =
+      white =
           n.is_before;
       is_part = record {
         spelled = n.inner;
@@ -110,7 +110,7 @@ named_front s a r p k =
         text = refl;
         is_spelled =
             n.is_inner;
-        is_space = n.is_after;
+        white = n.is_after;
       };
       is_rest = k;
     }
@@ -139,7 +139,7 @@ mutual
   elements_spell : (ts : Trees) (b : List ℕ) (es : List Step) (st : List Kind) (r : List ℕ) → AreElements ts b
       → Spells after es st r → Spells first (child_events ts ++ finish ∷ es) (Seq ∷ st) (b ++ 93 ∷ r)
   elements_spell no_trees b es st r p k =
-      record { space = b; part = 93 ∷ []; rest = r; text = refl; is_space = p; is_part = refl; is_rest = k }
+      record { space = b; part = 93 ∷ []; rest = r; text = refl; white = p; is_part = refl; is_rest = k }
   elements_spell (tree t ts) b es st r p k =
       subst (λ z. Spells due ((events t ++ child_events ts) ++ finish ∷ es) (Seq ∷ st) z) (sym (then_split b (93 ∷ r) p))
       (regroup (events t) (child_events ts) (finish ∷ es) due (Seq ∷ st) _
@@ -164,7 +164,7 @@ mutual
   members_spell : (ms : Members) (b : List ℕ) (es : List Step) (st : List Kind) (r : List ℕ) → AreMembers ms b
       → Spells after es st r → Spells first (member_events ms ++ finish ∷ es) (Map ∷ st) (b ++ 125 ∷ r)
   members_spell no_members b es st r p k =
-      record { space = b; part = 125 ∷ []; rest = r; text = refl; is_space = p; is_part = refl; is_rest = k }
+      record { space = b; part = 125 ∷ []; rest = r; text = refl; white = p; is_part = refl; is_rest = k }
   members_spell (member s t ms) b es st r p k =
       front_at (b ++ 125 ∷ r) _ (then_split b (125 ∷ r) p) (named_front s p.first (p.rest ++ 125 ∷ r) p.is_first (
       regroup (events t) (member_events ms) (finish ∷ es) due (Map ∷ st) _

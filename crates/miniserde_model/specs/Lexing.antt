@@ -22,7 +22,7 @@ pub record BeforeColon (P : List ℕ → Type 0) (part : List ℕ) : Type 0 wher
   pub space : List ℕ
   pub text : part ≡ spelled ++ (space ++ name_separator ∷ [])
   pub is_spelled : P spelled
-  pub is_space : IsWhitespace space
+  pub white : IsWhitespace space
 
 -- `part` is a string whose text is the name, then whitespace, then a colon
 abbrev pub IsName : List ℕ → List ℕ → Type 0
@@ -33,7 +33,7 @@ pub record Stands (P : List ℕ → Type 0) (s r : List ℕ) : Type 0 where
   pub space : List ℕ
   pub part : List ℕ
   pub text : s ≡ space ++ (part ++ r)
-  pub is_space : IsWhitespace space
+  pub white : IsWhitespace space
   pub is_part : P part
 
 -- the event is the first of a value, and the bytes b are the value's first token: a whole leaf or an opening bracket
@@ -90,7 +90,7 @@ Follows k false false s r = Stands (IsByte value_separator) s r
 
 -- Worked cases: `]` ends an array, and it does not begin an element.
 pub end_of_array : Follows Seq true true (end_array ∷ []) []
-end_of_array = record { space = []; part = end_array ∷ []; text = refl; is_space = tt; is_part = refl }
+end_of_array = record { space = []; part = end_array ∷ []; text = refl; white = tt; is_part = refl }
 
 pub no_element : Begins (end_array ∷ []) → ⊥
 no_element h = h.no_list_end (sym (ap (λ x. get_or x 0 0) h.text))

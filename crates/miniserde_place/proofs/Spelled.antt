@@ -76,7 +76,7 @@ start_spellable st e {f = f} k p q es h =
     subst (λ z. Spellable (first_or_after z) es (with_opened (opened_kind e) st)) p
     (subst (λ z. Spellable (first_or_after f) es z) q h) in
     let b = k.0.part in
-    (b ++ i.0, starts_on e st (b ++ i.0) i.0 (record { space = []; part = b; text = refl; is_space = tt; is_part = k.0.is_part }) es i.1)
+    (b ++ i.0, starts_on e st (b ++ i.0) i.0 (record { space = []; part = b; text = refl; white = tt; is_part = k.0.is_part }) es i.1)
 
 -- ---- every beginning can be completed
 

@@ -77,7 +77,7 @@ pub record JsonAt (j : List ℕ) (t : Tree) : Type 0 where
   pub end : List ℕ
   pub starts : Starts j event behind
   pub is_value : ValueAt t event behind end
-  pub is_space : IsWhitespace end
+  pub white : IsWhitespace end
 
 -- a text that spells a tree has the first event of the tree, the rest of the value and then whitespace
 pub json_at : (j : List ℕ) (t : Tree) → IsJson j t → JsonAt j t
@@ -90,7 +90,7 @@ json_at j t h =
       end = a.end;
       starts = a.starts;
       is_value = a.is_value;
-      is_space = subst IsWhitespace (no_events_left [] a.end k.0 a.is_rest).1 k.2;
+      white = subst IsWhitespace (no_events_left [] a.end k.0 a.is_rest).1 k.2;
     }
 
 -- what stands at the front is the front of the whole
@@ -99,12 +99,12 @@ pub json_front : (j : List ℕ) (t : Tree) (e : Step) (s : List ℕ) → IsJson 
 json_front j t e s h k =
     let a = json_at j t h in
     let one = same_start j a.event e a.behind s a.starts k in
-    (a.end, subst (λ z. ValueAt t z s a.end) one.0 (subst (λ z. ValueAt t a.event z a.end) one.1 a.is_value), a.is_space)
+    (a.end, subst (λ z. ValueAt t z s a.end) one.0 (subst (λ z. ValueAt t a.event z a.end) one.1 a.is_value), a.white)
 
 -- a text with the first event of a tree, the rest of the value and then whitespace spells the tree
 pub at_json : (j : List ℕ) (t : Tree) → JsonAt j t → IsJson j t
 at_json j t p =
     let runs = value_then_runs t p.event j p.behind p.end [] [] p.end p.starts p.is_value refl in
-    let u = run_json (events t ++ []) j p.end runs p.is_space in
+    let u = run_json (events t ++ []) j p.end runs p.white in
     let a = json_front j u.0 p.event p.behind u.2 p.starts in
     subst (λ z. IsJson j z) (value_same u.0 t p.event p.behind a.0 p.end a.1 p.is_value).0 u.2

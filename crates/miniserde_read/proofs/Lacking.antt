@@ -61,7 +61,7 @@ has_escape j (r, p) = (
   p.space,
   p.is_part.inside,
   r,
-  p.is_space,
+  p.white,
   no_quotes p.is_part.inside p.is_part.is_inside,
   p.text ∙ ap (λ x. p.space ++ x) (ap (λ x. x ++ r) p.is_part.text ∙ ap (λ x. 34 ∷ x) (append_assoc p.is_part.inside (92 ∷ []) r)),
 )

@@ -100,7 +100,7 @@ run_only_space w t h k = run_only is_space w t (whitespace_passes w h) k
 pub stands_of : (P : List ℕ → Type 0) (s t r : List ℕ) → t ≡ after_run is_space s → BeginsWith P t r → Stands P s r
 stands_of P s t r e h =
     let w = run_split is_space s in
-    record { space = w.0; part = h.0; text = w.2 ∙ ap (λ x. w.0 ++ x) (sym e ∙ h.2); is_space = whitespace_of w.0 w.1; is_part = h.1 }
+    record { space = w.0; part = h.0; text = w.2 ∙ ap (λ x. w.0 ++ x) (sym e ∙ h.2); white = whitespace_of w.0 w.1; is_part = h.1 }
 
 -- if no P begins with whitespace, t is s after its whitespace, and s has a P after whitespace, t begins with it
 pub stands_only : (P : List ℕ → Type 0) (s t r : List ℕ) → ((b : List ℕ) → P b → StopsAt is_space (b ++ r))

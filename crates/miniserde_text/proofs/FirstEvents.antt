@@ -107,7 +107,7 @@ first_byte c s r h p = record {
   more = r;
   text = p.text ∙ ap (λ z. p.space ++ (z ++ r)) p.is_part;
   is_whitespace =
-      p.is_space;
+      p.white;
   no_space = h;
 }
 
@@ -118,7 +118,7 @@ begins_first s r p b = record {
   more = b.more;
   text = p.text ∙ ap (λ z. p.space ++ (z ++ r)) p.is_part
       ∙ ap (λ z. p.space ++ z) b.text;
-  is_whitespace = p.is_space;
+  is_whitespace = p.white;
   no_space = b.no_space;
 }
 
@@ -171,8 +171,8 @@ same_piece e f a b x y p q sx sy h = let k : class e ≡ class f = same_class e 
 pub same_start : (s : List ℕ) (e f : Step) (r x : List ℕ) → Starts s e r → Starts s f x → (e ≡ f) × (r ≡ x)
 same_start s e f r x p q =
     let a = p.0 in let b = q.0 in
-    let one = same_run is_space a.space b.space (a.part ++ r) (b.part ++ x) (whitespace_passes a.space a.is_space)
-    (whitespace_passes b.space b.is_space) (piece_no_space e a.part r a.is_part)
+    let one = same_run is_space a.space b.space (a.part ++ r) (b.part ++ x) (whitespace_passes a.space a.white)
+    (whitespace_passes b.space b.white) (piece_no_space e a.part r a.is_part)
     (piece_no_space f b.part x b.is_part) (sym a.text ∙ b.text) in
     same_piece e f a.part b.part r x a.is_part b.is_part p.1 q.1 one.1
 
@@ -180,8 +180,8 @@ same_start s e f r x p q =
 pub same_byte : (c d : ℕ) (s r x : List ℕ) → is_space c ≡ false → is_space d ≡ false → Stands (IsByte c) s r
     → Stands (IsByte d) s x → (c ≡ d) × (r ≡ x)
 same_byte c d s r x hc hd p q =
-    let one = same_run is_space p.space q.space (c ∷ r) (d ∷ x) (whitespace_passes p.space p.is_space)
-    (whitespace_passes q.space q.is_space) hc hd
+    let one = same_run is_space p.space q.space (c ∷ r) (d ∷ x) (whitespace_passes p.space p.white)
+    (whitespace_passes q.space q.white) hc hd
     (ap (λ z. p.space ++ (z ++ r)) (sym p.is_part) ∙ sym p.text ∙ q.text ∙ ap (λ z. q.space ++ (z ++ x))
     q.is_part) in
     let two : ◌≡◌ {A = List ℕ} (c ∷ r) (d ∷ x) = one.1 in
@@ -193,15 +193,15 @@ colon a w r = simp append_assoc
 -- a text begins with at most one name and its colon: two have one text and one rest
 pub same_name : (s n m r x : List ℕ) → Names s n r → Names s m x → (n ≡ m) × (r ≡ x)
 same_name s n m r x p q =
-    let one = same_run is_space p.space q.space (p.part ++ r) (q.part ++ x) (whitespace_passes p.space p.is_space)
-    (whitespace_passes q.space q.is_space) (name_no_space n p.part r p.is_part)
+    let one = same_run is_space p.space q.space (p.part ++ r) (q.part ++ x) (whitespace_passes p.space p.white)
+    (whitespace_passes q.space q.white) (name_no_space n p.part r p.is_part)
     (name_no_space m q.part x q.is_part) (sym p.text ∙ q.text) in
     let a = p.is_part in let b = q.is_part in
     let two = same_string n m a.spelled b.spelled (a.space ++ 58 ∷ r) (b.space ++ 58 ∷ x) a.is_spelled b.is_spelled
     (sym (ap (λ z. z ++ r) a.text ∙ colon a.spelled a.space r) ∙ one.1 ∙ ap (λ z. z ++ x) b.text
     ∙ colon b.spelled b.space x) in
-    let three = same_run is_space a.space b.space (58 ∷ r) (58 ∷ x) (whitespace_passes a.space a.is_space)
-    (whitespace_passes b.space b.is_space) refl refl two.1 in
+    let three = same_run is_space a.space b.space (58 ∷ r) (58 ∷ x) (whitespace_passes a.space a.white)
+    (whitespace_passes b.space b.white) refl refl two.1 in
     let four : ◌≡◌ {A = List ℕ} (58 ∷ r) (58 ∷ x) = three.1 in
     (two.0, cc)
 
@@ -209,12 +209,12 @@ same_name s n m r x p q =
 
 -- `StandsThen` gives `Stands`, without the fact on the rest
 pub stands : {P K : List ℕ → Type 0} (b : List ℕ) (p : StandsThen P K b) → Stands P b p.rest
-stands b p = record { space = p.space; part = p.part; text = p.text; is_space = p.is_space; is_part = p.is_part }
+stands b p = record { space = p.space; part = p.part; text = p.text; white = p.white; is_part = p.is_part }
 
 -- if K holds of the rest of a `Stands`, it is a `StandsThen`
 pub standing : {P K : List ℕ → Type 0} (s r : List ℕ) → Stands P s r → K r → StandsThen P K s
 standing s r p k =
-    record { space = p.space; part = p.part; rest = r; text = p.text; is_space = p.is_space; is_part = p.is_part; is_rest = k }
+    record { space = p.space; part = p.part; rest = r; text = p.text; white = p.white; is_part = p.is_part; is_rest = k }
 
 -- whitespace and a token of e spell e before the events that r spells after it
 pub starts_on : (e : Step) (st : List Kind) (s r : List ℕ) → Stands (Piece e) s r → (rest : List Step)

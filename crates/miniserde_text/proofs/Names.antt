@@ -21,7 +21,7 @@ colon_leads P s rest colon r (b, h, j) e at d =
     let tail : rest ≡ w.0 ++ 58 ∷ r = w.2 ∙ ap (λ x. w.0 ++ x) (sym e ∙ first_byte colon 57 at ∙ ap (λ x. 58 ∷ x) (sym d)) in
     let part : List ℕ = b ++ (w.0 ++ 58 ∷ []) in
     let text : s ≡ part ++ r = j ∙ ap (λ x. b ++ x) (tail ∙ sym (append_assoc w.0 (58 ∷ []) r)) ∙ sym (append_assoc b (w.0 ++ 58 ∷ []) r) in
-    (part, record { spelled = b; space = w.0; text = refl; is_spelled = h; is_space = whitespace_of w.0 w.1 }, text)
+    (part, record { spelled = b; space = w.0; text = refl; is_spelled = h; white = whitespace_of w.0 w.1 }, text)
 
 -- a quote, characters cs up to a quote, whitespace and a colon are the name n, the UTF-8 of cs
 pub name_taken : (s n rest colon r cs : List ℕ) → slice_index s 0 ≡ 34 → SpellsUpToQuote cs (drop 1 s) rest
@@ -50,7 +50,7 @@ pub no_colon-no_name : (s n r ds rest colon : List ℕ) → slice_index s 0 ≡ 
 no_colon-no_name s n r ds rest colon at (b, h, j) x c away =
     let l = string_leads ds s (encode_utf8_all ds) rest at x refl in
     let same = same_string _ n l.0 h.spelled rest (h.space ++ 58 ∷ r) l.1 h.is_spelled (sym l.2 ∙ name_split s r b _ h j) in
-    away (ap (λ y. slice_index y 0) (c ∙ ap (after_run is_space) same.1 ∙ run_only_space h.space (58 ∷ r) h.is_space refl))
+    away (ap (λ y. slice_index y 0) (c ∙ ap (after_run is_space) same.1 ∙ run_only_space h.space (58 ∷ r) h.white refl))
 
 -- if t is s after its whitespace, and t begins with a name, s has that name after whitespace
 pub names_of : (s t n r : List ℕ) → t ≡ after_run is_space s → TakesName t n r → Names s n r

@@ -36,8 +36,8 @@ close_same k f s r x p q = (same_byte (closing k) (closing k) s r x (closing_no_
 -- the text from the next child of a container on is unique
 pub next_same : (k : Kind) (f : Bool) (s r x : List ℕ) → Follows k f false s r → Follows k f false s x → r ≡ x
 next_same k true s r x p q =
-    (same_run is_space p.0.space q.0.space r x (whitespace_passes p.0.space p.0.is_space)
-    (whitespace_passes q.0.space q.0.is_space) (begins_stops r p.1) (begins_stops x q.1)
+    (same_run is_space p.0.space q.0.space r x (whitespace_passes p.0.space p.0.white)
+    (whitespace_passes q.0.space q.0.white) (begins_stops r p.1) (begins_stops x q.1)
     (sym (bare s r p.0) ∙ bare s x q.0)).1
 next_same k false s r x p q = (same_byte 44 44 s r x refl refl p q).1
 

@@ -28,7 +28,7 @@ after_bare s b c p q = record {
   space = p.space ++ q.space;
   part = q.part;
   text = bare s b p ∙ ap (λ z. p.space ++ z) q.text ∙ sym (append_assoc p.space q.space (q.part ++ c));
-  is_space = space_append p.space q.space p.is_space q.is_space;
+  white = space_append p.space q.space p.white q.white;
   is_part = q.is_part;
 }
 
@@ -86,8 +86,8 @@ begins_so b r k h l =
 -- the whitespace before a part, and the part without it
 parted : {P : List ℕ → Type 0} (s r : List ℕ) (p : Stands P s r) → Stands (λ b. b ≡ []) s (p.part ++ r) × Stands P (p.part ++ r) r
 parted s r p = (
-  record { space = p.space; part = []; text = p.text; is_space = p.is_space; is_part = refl },
-  record { space = []; part = p.part; text = refl; is_space = tt; is_part = p.is_part },
+  record { space = p.space; part = []; text = p.text; white = p.white; is_part = refl },
+  record { space = []; part = p.part; text = refl; white = tt; is_part = p.is_part },
 )
 
 -- behind an opening bracket, the text from the first byte of a value on

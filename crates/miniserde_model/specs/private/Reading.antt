@@ -22,7 +22,7 @@ pub record StandsThen (P K : List ℕ → Type 0) (b : List ℕ) : Type 0 where
   pub part : List ℕ
   pub rest : List ℕ
   pub text : b ≡ space ++ (part ++ rest)
-  pub is_space : IsWhitespace space
+  pub white : IsWhitespace space
   pub is_part : P part
   pub is_rest : K rest
 

@@ -72,7 +72,7 @@ returns-clause-ok g c =
     (λ _ w. (
       r.0,
       at_json c.args.j.now r.0
-          (record { event = ev; behind = s; end = c.feed_from.new.source.rest; starts = k; is_value = r.1; is_space = w }),
+          (record { event = ev; behind = s; end = c.feed_from.new.source.rest; starts = k; is_value = r.1; white = w }),
       r.2,
     )) c.end.ensures.ok
 

@@ -31,6 +31,6 @@ returns-clause-ok c =
       end = _;
       starts = v.starts;
       is_value = v.is_value;
-      is_space = c.in_ok-end.ensures.ok;
+      white = c.in_ok-end.ensures.ok;
     } in
     (v.one, at_json c.args.j.now v.one all)

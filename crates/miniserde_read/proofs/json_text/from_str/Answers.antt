@@ -65,7 +65,7 @@ returns-clause-content g c =
       end = _;
       starts = v.starts;
       is_value = v.is_value;
-      is_space = c.in_ok-end.ensures.ok;
+      white = c.in_ok-end.ensures.ok;
     } in
     (v.one, at_json c.args.j.now v.one all, v.gives)
 
