@@ -1,9 +1,6 @@
 //! Writes enums, externally or internally tagged.
-ghost use Rattle.std.specs.Prelude.{◌≡◌, ◌++◌, true, false, map, OnOk, OnErr, IsErrOf};
-ghost use Rattle.miniserde_model.specs.Compact.{compact};
-ghost use Rattle.miniserde_model.specs.InRange.{InRange};
-ghost use Rattle.miniserde_model.specs.declared.error.Error.TheVariants.{Memory};
-ghost use Rattle.miniserde_ser.specs.Writer.{KeepsNormal};
+ghost use Rattle.std.specs.Prelude.{map};
+ghost use Rattle.miniserde_ser.specs.Writer.{WritesTree};
 ghost use Rattle.miniserde_record.specs.Structs.{record_tree};
 ghost use Rattle.miniserde_enum.specs.Tagging.{external, internal};
 ghost use Rattle.miniserde_enum.specs.Cases.{data_tree};
@@ -17,14 +14,7 @@ use miniserde_ser::ser::{Fragment, Serialize, Writer};
 /// member, which has the variant's name and the data. Returns `Memory` if the writer fails.
 #[inline(always)]
 pub fn write_data<T: Serialize>(w: &mut Writer, name: &str, value: &T) -> Result<()>
-    ensures ok { OnOk result (w.new.text ≡ w.old.text ++ compact (data_tree external T.tree name.now value.now)) }
-    ensures in_range { OnOk result (InRange (data_tree external T.tree name.now value.now)) }
-    ensures normal { OnOk result (KeepsNormal w.old (data_tree external T.tree name.now value.now) w.new) }
-    ensures first { OnOk result (w.new.first ≡ false) }
-    ensures unrefused { OnOk result (w.new.refused ≡ false) }
-    ensures was_running { OnOk result (w.old.refused ≡ false) }
-    ensures memory { OnErr result (IsErrOf result Memory) }
-    ensures err { OnErr result (w.new.refused ≡ true) }
+    ensures { WritesTree w.old (data_tree external T.tree name.now value.now) result w.new }
 {
     w.map_in_order()?;
     w.key_inline(name)?;
@@ -44,17 +34,7 @@ pub fn write_fields<M: Members>(
     names: &[&str],
     values: &M,
 ) -> Result<()>
-    ensures ok { OnOk result (w.new.text ≡ w.old.text
-        ++ compact (data_tree external (record_tree (map (λ n. n.now) names.now) M.trees (λ v. v)) name.now values.now)) }
-    ensures in_range { OnOk result (InRange
-        (data_tree external (record_tree (map (λ n. n.now) names.now) M.trees (λ v. v)) name.now values.now)) }
-    ensures normal { OnOk result (KeepsNormal w.old
-        (data_tree external (record_tree (map (λ n. n.now) names.now) M.trees (λ v. v)) name.now values.now) w.new) }
-    ensures first { OnOk result (w.new.first ≡ false) }
-    ensures unrefused { OnOk result (w.new.refused ≡ false) }
-    ensures was_running { OnOk result (w.old.refused ≡ false) }
-    ensures memory { OnErr result (IsErrOf result Memory) }
-    ensures err { OnErr result (w.new.refused ≡ true) }
+    ensures { WritesTree w.old (data_tree external (record_tree (map (λ n. n.now) names.now) M.trees (λ v. v)) name.now values.now) result w.new }
 {
     w.map_in_order()?;
     w.key_inline(name)?;
@@ -68,15 +48,7 @@ pub fn write_fields<M: Members>(
 /// that no member of the data has the name `tag`. Returns `Memory` if the writer fails.
 #[inline(always)]
 pub fn write_tagged<T: Inside>(w: &mut Writer, tag: &str, name: &str, value: &T) -> Result<()>
-    ensures ok { OnOk result (w.new.text
-        ≡ w.old.text ++ compact (data_tree (internal tag.now) T.tree name.now value.now)) }
-    ensures in_range { OnOk result (InRange (data_tree (internal tag.now) T.tree name.now value.now)) }
-    ensures normal { OnOk result (KeepsNormal w.old (data_tree (internal tag.now) T.tree name.now value.now) w.new) }
-    ensures first { OnOk result (w.new.first ≡ false) }
-    ensures unrefused { OnOk result (w.new.refused ≡ false) }
-    ensures was_running { OnOk result (w.old.refused ≡ false) }
-    ensures memory { OnErr result (IsErrOf result Memory) }
-    ensures err { OnErr result (w.new.refused ≡ true) }
+    ensures { WritesTree w.old (data_tree (internal tag.now) T.tree name.now value.now) result w.new }
 {
     w.map()?;
     w.key_inline(tag)?;
@@ -98,17 +70,7 @@ pub fn write_tagged_fields<M: Members>(
     names: &[&str],
     values: &M,
 ) -> Result<()>
-    ensures ok { OnOk result (w.new.text ≡ w.old.text ++ compact
-        (data_tree (internal tag.now) (record_tree (map (λ n. n.now) names.now) M.trees (λ v. v)) name.now values.now)) }
-    ensures in_range { OnOk result (InRange
-        (data_tree (internal tag.now) (record_tree (map (λ n. n.now) names.now) M.trees (λ v. v)) name.now values.now)) }
-    ensures normal { OnOk result (KeepsNormal w.old
-        (data_tree (internal tag.now) (record_tree (map (λ n. n.now) names.now) M.trees (λ v. v)) name.now values.now) w.new) }
-    ensures first { OnOk result (w.new.first ≡ false) }
-    ensures unrefused { OnOk result (w.new.refused ≡ false) }
-    ensures was_running { OnOk result (w.old.refused ≡ false) }
-    ensures memory { OnErr result (IsErrOf result Memory) }
-    ensures err { OnErr result (w.new.refused ≡ true) }
+    ensures { WritesTree w.old (data_tree (internal tag.now) (record_tree (map (λ n. n.now) names.now) M.trees (λ v. v)) name.now values.now) result w.new }
 {
     w.map()?;
     w.key_inline(tag)?;

@@ -2,6 +2,8 @@
 use Rattle.std.specs.Prelude.{◌≡◌, ◌≤◌, ℕ, ◌+◌, ◌<◌, List, ◌++◌, length, Bool, true, false, Result, OnOk, OnErr, IsErrOf}
 use Rattle.miniserde_model.specs.declared.error.Error.{Error}
 use Rattle.miniserde_model.specs.declared.error.Error.TheVariants.{Memory}
+use Rattle.miniserde_model.specs.Compact.{compact}
+use Rattle.miniserde_model.specs.InRange.{InRange}
 use Rattle.miniserde_model.specs.Tree.{Tree}
 use Rattle.miniserde_model.specs.Normal.{norm}
 
@@ -52,3 +54,16 @@ pub record Appends (old : WriterView) (bs : List ℕ) (first : Bool) (answer : R
   pub err : OnErr answer (new ≡ with_refused old)
   pub room : OnErr answer (LacksRoom old bs)
   pub capacity : old.capacity ≤ new.capacity
+
+-- The call appends the compact text of the tree t, which is in range, and of which the writer knows what `KeepsNormal` says;
+-- an element or a member right after it is not the first of its container. Or it fails with `Memory`, and each later call
+-- fails. If a call failed before, it fails.
+pub record WritesTree (old : WriterView) (t : Tree) (answer : Result (Unit {0}) Error) (new : WriterView) : Type 0 where
+  pub ok : OnOk answer (new.text ≡ old.text ++ compact t)
+  pub in_range : OnOk answer (InRange t)
+  pub normal : OnOk answer (KeepsNormal old t new)
+  pub first : OnOk answer (new.first ≡ false)
+  pub unrefused : OnOk answer (new.refused ≡ false)
+  pub was_running : OnOk answer (old.refused ≡ false)
+  pub memory : OnErr answer (IsErrOf answer Memory)
+  pub err : OnErr answer (new.refused ≡ true)

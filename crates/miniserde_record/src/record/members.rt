@@ -1,10 +1,9 @@
 //! Writes lent values as the members of an object.
-ghost use Rattle.std.specs.Prelude.{◌≡◌, ◌++◌, true, false, List, [], ◌∷◌, Option, Some, OnOk, OnErr, IsErrOf, map};
+ghost use Rattle.std.specs.Prelude.{◌≡◌, ◌++◌, true, List, [], ◌∷◌, Option, Some, OnOk, OnErr, IsErrOf, map};
 ghost use Rattle.miniserde_model.specs.Tree.{Tree, members};
-ghost use Rattle.miniserde_model.specs.Compact.{compact};
-ghost use Rattle.miniserde_model.specs.InRange.{InRange, MembersInRange};
+ghost use Rattle.miniserde_model.specs.InRange.{MembersInRange};
 ghost use Rattle.miniserde_model.specs.declared.error.Error.TheVariants.{Memory};
-ghost use Rattle.miniserde_ser.specs.Writer.{KeepsNormal};
+ghost use Rattle.miniserde_ser.specs.Writer.{WritesTree};
 ghost use Rattle.miniserde_record.specs.InOrder.{names_rise, KeepsTreesNormal};
 ghost use Rattle.miniserde_record.specs.Structs.{with_names, members_text};
 
@@ -96,17 +95,7 @@ impl<'a, A: Serialize, B: Serialize, C: Serialize, D: Serialize, M: Members> Mem
 /// is `None`. Returns `Memory` if the writer fails.
 #[inline(always)]
 pub fn write_members<M: Members>(w: &mut Writer, names: &[&str], values: &M) -> Result<()>
-    ensures ok { OnOk result (w.new.text ≡ w.old.text
-        ++ compact (members (with_names (map (λ n. n.now) names.now) (M.trees values.now)))) }
-    ensures in_range { OnOk result (InRange
-        (members (with_names (map (λ n. n.now) names.now) (M.trees values.now)))) }
-    ensures normal { OnOk result (KeepsNormal w.old
-        (members (with_names (map (λ n. n.now) names.now) (M.trees values.now))) w.new) }
-    ensures first { OnOk result (w.new.first ≡ false) }
-    ensures unrefused { OnOk result (w.new.refused ≡ false) }
-    ensures was_running { OnOk result (w.old.refused ≡ false) }
-    ensures memory { OnErr result (IsErrOf result Memory) }
-    ensures err { OnErr result (w.new.refused ≡ true) }
+    ensures { WritesTree w.old (members (with_names (map (λ n. n.now) names.now) (M.trees values.now))) result w.new }
 {
     w.map()?;
     values.write(w, names)?;
@@ -118,17 +107,7 @@ pub fn write_members<M: Members>(w: &mut Writer, names: &[&str], values: &M) -> 
 #[inline(always)]
 pub fn write_members_in_order<M: Members>(w: &mut Writer, names: &[&str], values: &M) -> Result<()>
     requires in_order { names_rise (map (λ n. n.now) names.now) ≡ true }
-    ensures ok { OnOk result (w.new.text ≡ w.old.text
-        ++ compact (members (with_names (map (λ n. n.now) names.now) (M.trees values.now)))) }
-    ensures in_range { OnOk result (InRange
-        (members (with_names (map (λ n. n.now) names.now) (M.trees values.now)))) }
-    ensures normal { OnOk result (KeepsNormal w.old
-        (members (with_names (map (λ n. n.now) names.now) (M.trees values.now))) w.new) }
-    ensures first { OnOk result (w.new.first ≡ false) }
-    ensures unrefused { OnOk result (w.new.refused ≡ false) }
-    ensures was_running { OnOk result (w.old.refused ≡ false) }
-    ensures memory { OnErr result (IsErrOf result Memory) }
-    ensures err { OnErr result (w.new.refused ≡ true) }
+    ensures { WritesTree w.old (members (with_names (map (λ n. n.now) names.now) (M.trees values.now))) result w.new }
 {
     w.map_in_order()?;
     values.write(w, names)?;

@@ -1,10 +1,9 @@
 -- `read_record` returns the struct that the members of an object give, and `Invalid` only if no such object follows.
 -- The loop keeps that the values so far are given by the members so far (`ObjectGoes`); a name is taken out of the
 -- source before its value is read.
-use Rattle.std.proofs.Common.{refl, Some, sym, ap, ◌∙◌}
+use Rattle.std.proofs.Common.{Some, sym, ap, ◌∙◌}
 use Rattle.std.specs.Prelude.{option_and_then}
 use Rattle.std.proofs.lemmas.Result.{err_from_is_err_and}
-use Rattle.miniserde_text.specs.Lexer.{text_of}
 use Rattle.miniserde_read.proofs.Objects.{member_less, object_ends, object_ended, object_gives, object_rejects}
 use Rattle.miniserde_record.proofs.Members.{fields_go, fields_none}
 use Rattle.miniserde_record.proofs.record.slots.read_record.Goals as goal
