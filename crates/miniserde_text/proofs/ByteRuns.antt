@@ -106,7 +106,7 @@ stands_of P s t r e h =
 pub stands_only : (P : List ℕ → Type 0) (s t r : List ℕ) → ((b : List ℕ) → P b → StopsAt is_space (b ++ r))
     → t ≡ after_run is_space s → Stands P s r → BeginsWith P t r
 stands_only P s t r heads e h =
-    (h.part, h.is_part, e ∙ ap (after_run is_space) h.text ∙ run_only_space h.space (h.part ++ r) h.is_space (heads h.part h.is_part))
+    (h.part, h.is_part, e ∙ ap (after_run is_space) h.text ∙ run_only_space h.space (h.part ++ r) h.white (heads h.part h.is_part))
 
 -- if t is s after its whitespace, s is whitespace and then t, which does not begin with whitespace
 pub blank_of : (s t : List ℕ) → t ≡ after_run is_space s → Blank s t

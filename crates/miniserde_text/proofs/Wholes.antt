@@ -39,7 +39,7 @@ run_spells due (e ∷ es) st s r h w =
     (run_spells (first_or_after (is_some (opened_kind e))) es (with_opened (opened_kind e) st) h.0 r h.2 w)
 run_spells first (element ∷ es) (Seq ∷ st) s r h w =
     subst (Spells due es (Seq ∷ st)) (sym (bare s h.0 h.1.0))
-    (due_space es (Seq ∷ st) h.1.0.space h.0 h.1.0.is_space (run_spells due es (Seq ∷ st) h.0 r h.2 w))
+    (due_space es (Seq ∷ st) h.1.0.space h.0 h.1.0.white (run_spells due es (Seq ∷ st) h.0 r h.2 w))
 run_spells first (key n ∷ es) (Map ∷ st) s r h w =
     standing s h.1 (after_bare s h.0 h.1 h.2.0 h.3) (run_spells due es (Map ∷ st) h.1 r h.4 w)
 run_spells first (finish ∷ es) (Seq ∷ st) s r h w = standing s h.0 h.1 (run_spells after es st h.0 r h.2 w)
