@@ -1,6 +1,6 @@
 -- The tree of a value is a list only if the first token is `[`, and an object only if it is `{`. By cases of the
 -- tree: only a list begins with the event `seq`, and only an object with `map`.
-use Rattle.std.proofs.Common.{◌≡◌, ℕ, List, Some, None, refl}
+use Rattle.std.proofs.Common.{◌≡◌, ℕ, true, List, Some, None, is_some, refl, sym, ap, ◌∙◌}
 use Rattle.miniserde_model.specs.Tree.{Tree, null, truth, nonneg, neg, num, str, list, members}
 use Rattle.miniserde_model.specs.Step.{seq, map}
 use Rattle.miniserde_text.specs.Lexer.{event_of_token}
@@ -53,3 +53,27 @@ no_members (nonneg i) x scratch s r n v = refl
 no_members (neg i) x scratch s r n v = refl
 no_members (num i) x scratch s r n v = refl
 no_members (str i) x scratch s r n v = refl
+
+-- if the first token of a value is `[`, the retained tree is an array
+pub is_list : (t : Tree) (x : Event) (scratch s r : List ℕ) → x ≡ token.SeqStart
+    → ValueAt t (event_of_token x scratch) s r → is_some (only_list (Some (retained_tree t))) ≡ true
+is_list (list ts) x scratch s r e v = refl
+is_list null x scratch s r e v = let other = sym (ap (λ y. event_of_token y scratch) e) ∙ v.0 in absurd (cc)
+is_list (truth b) x scratch s r e v = let other = sym (ap (λ y. event_of_token y scratch) e) ∙ v.0 in absurd (cc)
+is_list (nonneg i) x scratch s r e v = let other = sym (ap (λ y. event_of_token y scratch) e) ∙ v.0 in absurd (cc)
+is_list (neg i) x scratch s r e v = let other = sym (ap (λ y. event_of_token y scratch) e) ∙ v.0 in absurd (cc)
+is_list (num i) x scratch s r e v = let other = sym (ap (λ y. event_of_token y scratch) e) ∙ v.0 in absurd (cc)
+is_list (str i) x scratch s r e v = let other = sym (ap (λ y. event_of_token y scratch) e) ∙ v.0 in absurd (cc)
+is_list (members ms) x scratch s r e v = let other = sym (ap (λ y. event_of_token y scratch) e) ∙ v.0 in absurd (cc)
+
+-- if the first token of a value is `{`, the retained tree is an object
+pub is_members : (t : Tree) (x : Event) (scratch s r : List ℕ) → x ≡ token.MapStart
+    → ValueAt t (event_of_token x scratch) s r → is_some (only_members (Some (retained_tree t))) ≡ true
+is_members (members ms) x scratch s r e v = refl
+is_members null x scratch s r e v = let other = sym (ap (λ y. event_of_token y scratch) e) ∙ v.0 in absurd (cc)
+is_members (truth b) x scratch s r e v = let other = sym (ap (λ y. event_of_token y scratch) e) ∙ v.0 in absurd (cc)
+is_members (nonneg i) x scratch s r e v = let other = sym (ap (λ y. event_of_token y scratch) e) ∙ v.0 in absurd (cc)
+is_members (neg i) x scratch s r e v = let other = sym (ap (λ y. event_of_token y scratch) e) ∙ v.0 in absurd (cc)
+is_members (num i) x scratch s r e v = let other = sym (ap (λ y. event_of_token y scratch) e) ∙ v.0 in absurd (cc)
+is_members (str i) x scratch s r e v = let other = sym (ap (λ y. event_of_token y scratch) e) ∙ v.0 in absurd (cc)
+is_members (list ts) x scratch s r e v = let other = sym (ap (λ y. event_of_token y scratch) e) ∙ v.0 in absurd (cc)

@@ -78,8 +78,7 @@ impl FromJson for Array {
         match token {
             Event::SeqStart => match read_value(token, source, false)?.into_array() {
                 Some(array) => Ok(array),
-                // Never happens: a value that begins with `[` is an array.
-                None => Err(Error::Invalid),
+                None => unreachable!(),
             },
             _ => Err(Error::Invalid),
         }
@@ -99,8 +98,7 @@ impl FromJson for Object {
         match token {
             Event::MapStart => match read_value(token, source, false)?.into_object() {
                 Some(object) => Ok(object),
-                // Never happens: a value that begins with `{` is an object.
-                None => Err(Error::Invalid),
+                None => unreachable!(),
             },
             _ => Err(Error::Invalid),
         }

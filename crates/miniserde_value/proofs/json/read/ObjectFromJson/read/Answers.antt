@@ -1,12 +1,8 @@
--- The first token says whether the tree is an object, and the text has one tree.
-use Rattle.std.proofs.Common.{Some, option_map, sym, ap, ◌∙◌}
-use Rattle.miniserde_model.specs.Tree.{Tree}
-use Rattle.miniserde_text.specs.Lexer.{event_of_token}
-use Rattle.miniserde_read.proofs.Same.{value_same}
-use Rattle.miniserde_value.specs.Retained.{retained_tree}
+-- The first token says whether the tree is an object. A value that begins so is retained as such.
+use Rattle.std.proofs.Common.{option_map, is_some, sym, ap, ◌∙◌, true≢false}
 use Rattle.miniserde_value.specs.OnlyContainers.{only_members}
 use Rattle.miniserde_value.specs.Values.{object_content}
-use Rattle.miniserde_value.proofs.Openings.{no_members}
+use Rattle.miniserde_value.proofs.Openings.{no_members, is_members}
 use Rattle.miniserde_value.proofs.json.read.ObjectFromJson.read.Goals as goal
 
 pub returns-in_default : goal.returns-in_default
@@ -18,9 +14,8 @@ returns-in_default c = record {
   memory = λ e. tt;
 }
 
-pub returns-in-None-clause-invalid : goal.returns-in-None-clause-invalid
-returns-in-None-clause-invalid c = λ e t r v.
+pub unreachable-requires : goal.unreachable-requires
+unreachable-requires c =
     let read = c.in_ok-read_value-in-MapStart.ensures.ok in
-    let same = value_same t read.0 (event_of_token c.args.token c.args.source.now.scratch) c.args.source.now.rest r _ v read.1 in
-    ap (λ (u : Tree). only_members (Some (retained_tree u))) same.0 ∙ ap only_members read.2
-    ∙ sym c.into_object.ensures ∙ ap (option_map object_content) c.in-None.is
+    true≢false (sym (is_members read.0 c.args.token c.args.source.now.scratch c.args.source.now.rest _ c.in-MapStart.is read.1)
+    ∙ ap is_some (ap only_members read.2 ∙ sym c.into_object.ensures ∙ ap (option_map object_content) c.in-None.is))
