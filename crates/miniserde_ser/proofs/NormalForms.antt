@@ -1,7 +1,8 @@
 -- Lists and objects in normal form: a list of trees in normal form is one (`normal_children-snoc` for a turn of a loop over
 -- its elements), and so is an object of such trees whose names rise (`rising_is_normal`), whose members are in front of
 -- the later ones (`with_first`).
-use Rattle.std.proofs.Common.{◌≡◌, ℕ, List, [], ◌∷◌, ◌++◌, Option, Some, None, refl, sym, ap, ap₂, subst, ◌∙◌, Less, option_map}
+use Rattle.std.proofs.Common.{◌≡◌, ℕ, List, [], ◌∷◌, ◌++◌, Option, Some, None, IfSome, refl, sym, ap, ap₂, subst, ◌∙◌}
+use Rattle.std.proofs.Common.{Less, option_map}
 use Rattle.miniserde_model.specs.Tree.{Tree, Trees, tree, no_trees, Members, no_members, member}
 use Rattle.miniserde_model.specs.Normal.{text_cmp, norm, norm_children, norm_members, with_if_absent, with_if_absent_by}
 use Rattle.miniserde_model.specs.Normal.{BeginsAbove, Rise}
@@ -49,16 +50,12 @@ abbrev pub EndsAt : {K V : Type 0} → Option K → List (K × V) → Type 0
 EndsAt None es = es ≡ []
 EndsAt {K} {V} (Some k) es = (ds : List (K × V)) × (e : K × V) × (es ≡ ds ++ e ∷ []) × (e.0 ≡ k)
 
--- names that rise still do with a further one, which comes after the last one
-pub rise_further : {K V : Type 0} (text : K → List ℕ) (f : V → Tree) (es : List (K × V)) (k : K) (d : K × V)
-    → Rise (members_of text f es) → EndsAt (Some k) es → text_cmp (text k) (text d.0) ≡ Less
-    → Rise (members_of text f (es ++ d ∷ []))
-rise_further text f es k d r (ds, e, is, last) l =
+-- Names that rise still do with a further one, if it comes after the last one, where there is one: o is what has the key
+-- of the last entry by `key`.
+pub rise_further : {K V X : Type 0} (text : K → List ℕ) (f : V → Tree) (es : List (K × V)) (key : X → K) (o : Option X)
+    (d : K × V) → Rise (members_of text f es) → EndsAt (option_map key o) es
+    → IfSome o (λ x. text_cmp (text (key x)) (text d.0) ≡ Less) → Rise (members_of text f (es ++ d ∷ []))
+rise_further text f es key None d r e l = rw e (tt, tt)
+rise_further text f es key (Some x) d r (ds, e, is, last) l =
     subst (λ xs. Rise (members_of text f (xs ++ d ∷ []))) (sym is)
     (rise-snoc text f ds e d (subst (λ xs. Rise (members_of text f xs)) is r) (ap (λ n. text_cmp (text n) (text d.0)) last ∙ l))
-
--- there are no entries, if they end with the key of none
-pub no_entries : {K V X : Type 0} (key : X → K) (o : Option X) {es : List (K × V)} → EndsAt (option_map key o) es
-    → ((x : X) → o ≡ Some x → ⊥) → es ≡ []
-no_entries key None e n = e
-no_entries key (Some x) e n = absurd (n x refl)
