@@ -7,7 +7,6 @@ use Rattle.miniserde_model.specs.Compact.{compact, string_text, compact_members,
 use Rattle.miniserde_model.specs.InRange.{InRange, MembersInRange}
 use Rattle.miniserde_ser.specs.Trees.{members_of}
 use Rattle.miniserde_ser.specs.Writer.{WriterView, with_first_flag, after_append}
-use Rattle.miniserde_ser.proofs.Items.{ChildrenWritten}
 
 module _ {K V : Type 0} (text : K → List ℕ) (f : V → Tree) where
   compact_more_members-snoc : (es : List (K × V)) (e : K × V)
@@ -25,13 +24,11 @@ module _ {K V : Type 0} (text : K → List ℕ) (f : V → Tree) where
       rw later (grind (arith, append_assoc {A = ℕ}, compact_more_members-snoc es e))
 
   -- what a turn of a loop over entries appends
-  compact_members_step : (es : List (K × V)) (e : K × V) {b : Bool} {pre old mid new : List ℕ}
-      → ChildrenWritten pre (compact_members (members_of text f es)) (length es) old b
+  compact_members_step : (es : List (K × V)) (e : K × V) {b : Bool} (pre : List ℕ) {old mid new : List ℕ}
+      → old ≡ pre ++ compact_members (members_of text f es) → (length es ≡ 0 → b ≡ true) → (0 < length es → b ≡ false)
       → mid ≡ old ++ ((cond b [] (44 ∷ []) ++ string_text (text e.0)) ++ 58 ∷ []) → new ≡ mid ++ compact (f e.1)
       → new ≡ pre ++ compact_members (members_of text f (es ++ e ∷ []))
-  compact_members_step es e {b = b} o m w =
-      let grown = compact_members-snoc es e b o.start o.later in
-      rw (w, m, o.is, grown) (simp append_assoc refl)
+  compact_members_step es e {b = b} pre is s n m w = rw (w, m, is, compact_members-snoc es e b s n) (simp append_assoc refl)
 
   -- the members so far have trees, and names that are texts
   MembersInRange_step : (es : List (K × V)) (e : K × V) → MembersInRange (members_of text f es)
@@ -55,7 +52,7 @@ module _ {K V : Type 0} (text : K → List ℕ) (f : V → Tree) where
       → IsUtf8 (text e.0) → new.text ≡ named.text ++ compact (f e.1) → InRange (f e.1)
       → (named.first ≡ false → new.first ≡ false) → new.refused ≡ false → MembersWritten old (es ++ e ∷ []) new
   MembersWritten_step es e h name u t r first ok = record {
-    is = compact_members_step es e (record { is = h.is; start = h.start; later = h.later }) (ap (λ s. s.text) name) t;
+    is = compact_members_step es e _ h.is h.start h.later (ap (λ s. s.text) name) t;
     all_in_range = MembersInRange_step es e h.all_in_range u r;
     start = λ z. absurd (omega (arith, length-append es (e ∷ []), z));
     later = λ _. first (ap (λ s. s.first) name);
