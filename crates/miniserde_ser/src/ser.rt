@@ -76,7 +76,7 @@ impl Model for Writer {
 
 impl Writer {
     ghost use Rattle.std.specs.Prelude.{◌≡◌, ◌<◌, [], ◌∷◌, ◌++◌, true, false, OnOk, OnErr, IfOk, IsErrOf, IsUtf8};
-    ghost use Rattle.std.specs.Prelude.{string_bytes, string_capacity, ◌≤◌, ◌&&◌, if◌then◌else◌, codes, decimal};
+    ghost use Rattle.std.specs.Prelude.{string_bytes, string_capacity, ◌≤◌, if◌then◌else◌, codes, decimal};
     ghost use Rattle.miniserde_model.specs.Compact.{compact, string_text};
     ghost use Rattle.miniserde_model.specs.declared.error.Error.TheVariants.{Memory};
     ghost use Rattle.miniserde_ser.specs.Writer.{Appends, with_normal, with_refused};
@@ -289,16 +289,6 @@ impl Writer {
         ensures { Appends self.old (codes "{") true result self.new }
     {
         self.punctuate('{', true)
-    }
-
-    // Ends the flag `normal` unless `rises` says that the next name is known to come after the one before it.
-    #[inline(always)]
-    fn watch(&mut self, rises: bool)
-        ensures { self.new ≡ with_normal self.old (self.old.normal && rises) }
-    {
-        if !rises {
-            self.normal = false;
-        }
     }
 
     /// Begins a member of an object: appends a comma unless the member is the first, then its name as a string, and a
