@@ -1,55 +1,46 @@
--- Appending an element to a list appends its text to the compact text of the list, behind a comma unless it is the
--- first. By recursion over the elements (`compact_children-snoc`); `compact_children_turn` states it for one turn of a
--- loop, and `compact_children_later` what is due behind an element that is not the last.
-use Rattle.std.proofs.Common.{◌≡◌, ℕ, ◌+◌, ◌<◌, List, [], ◌∷◌, ◌++◌, length, Bool, true, false, cond, take, get_or}
+-- The compact text of a list by its parts: of two lists with a comma between them, by recursion over the elements of the
+-- first (`compact_children-append`), and of one whose first element is written (`compact_children_later`).
+use Rattle.std.proofs.Common.{◌≡◌, ℕ, ◌+◌, ◌<◌, List, [], ◌∷◌, ◌++◌, length, Bool, take, get_or}
 use Rattle.std.proofs.Common.{refl, ap, append_assoc, ◌∙◌, sym, arith}
-use Rattle.std.proofs.lemmas.List.{take_more, append-nil}
-use Rattle.miniserde_model.specs.Tree.{Tree}
+use Rattle.std.proofs.lemmas.List.{take_more}
+use Rattle.miniserde_model.specs.Tree.{Tree, list}
 use Rattle.miniserde_model.specs.Compact.{compact, compact_children, compact_more}
-use Rattle.miniserde_model.specs.InRange.{InRange, AllInRange}
+use Rattle.miniserde_model.specs.InRange.{AllInRange}
 use Rattle.std.specs.Prelude.{Result, OnOk}
 use Rattle.std.proofs.lemmas.Result.{on_ok_weaker}
 use Rattle.miniserde_model.specs.declared.error.Error.{Error}
 use Rattle.miniserde_ser.specs.Trees.{trees_of}
 use Rattle.miniserde_ser.specs.Writer.{WriterView, Appends, after_append, with_first_flag}
 
-compact_more-snoc : {A : Type 0} (f : A → Tree) (xs : List A) (x : A) → compact_more (trees_of f (xs ++ x ∷ []))
-    ≡ compact_more (trees_of f xs) ++ (44 ∷ []) ++ compact (f x)
-compact_more-snoc f [] x = grind (arith, append_assoc {A = ℕ}, append-nil {A = ℕ})
-compact_more-snoc f (y ∷ ys) x = grind (arith, append_assoc {A = ℕ}, compact_more-snoc f ys x)
+compact_more-append : {A : Type 0} (f : A → Tree) (xs ys : List A) → compact_more (trees_of f (xs ++ ys))
+    ≡ compact_more (trees_of f xs) ++ compact_more (trees_of f ys)
+compact_more-append f [] ys = refl
+compact_more-append f (x ∷ xs) ys = grind (arith, append_assoc {A = ℕ}, compact_more-append f xs ys)
 
--- the comma stands before each element but the first
-compact_children-snoc : {A : Type 0} (f : A → Tree) (xs : List A) (x : A) (b : Bool) → (length xs ≡ 0 → b ≡ true)
-    → (0 < length xs → b ≡ false) → compact_children (trees_of f (xs ++ x ∷ [])) ≡ compact_children (trees_of f xs)
-    ++ (cond b [] (44 ∷ []) ++ compact (f x))
-compact_children-snoc f [] x b s n = rw (s refl) (grind (arith, append-nil {A = ℕ}))
-compact_children-snoc f (y ∷ ys) x b s n = let e : b ≡ false = n (omega arith) in
-    rw e (grind (arith, append_assoc {A = ℕ}, compact_more-snoc f ys x))
+-- a comma stands between the elements of two lists that are not empty
+compact_children-append : {A : Type 0} (f : A → Tree) (xs ys : List A) → 0 < length xs → 0 < length ys
+    → compact_children (trees_of f (xs ++ ys)) ≡ compact_children (trees_of f xs) ++ (44 ∷ []) ++ compact_children (trees_of f ys)
+compact_children-append f [] ys p q = absurd (omega (arith, p))
+compact_children-append f (x ∷ xs) [] p q = absurd (omega (arith, q))
+compact_children-append f (x ∷ xs) (y ∷ ys) p q = grind (arith, append_assoc {A = ℕ}, compact_more-append f xs (y ∷ ys))
 
--- if the trees of xs and the tree of x are in range, so are the trees of xs with x appended
-pub AllInRange-snoc : {A : Type 0} (f : A → Tree) (xs : List A) (x : A) → AllInRange (trees_of f xs) → InRange (f x)
-    → AllInRange (trees_of f (xs ++ x ∷ []))
-AllInRange-snoc f [] x h r = (r, tt)
-AllInRange-snoc f (y ∷ ys) x h r = (h.0, AllInRange-snoc f ys x h.1 r)
+-- The items are those of xs and then those of ys, and neither list is empty. The text of the list is `[`, the text of xs, a
+-- comma, the text of ys and `]`.
+pub compact_parts : {A : Type 0} (f : A → Tree) (xs ys : List A) {items : List A} (old : List ℕ) {opened front mid all : List ℕ}
+    → xs ++ ys ≡ items → 0 < length xs → 0 < length ys → opened ≡ old ++ 91 ∷ []
+    → front ≡ opened ++ compact_children (trees_of f xs) → mid ≡ front ++ 44 ∷ []
+    → all ≡ mid ++ compact_children (trees_of f ys) → all ++ 93 ∷ [] ≡ old ++ compact (list (trees_of f items))
+compact_parts f xs ys old e p q o h m a = rw (a, m, h, o, sym e, compact_children-append f xs ys p q) (simp append_assoc refl)
+
+-- if the trees of xs and those of ys are in range, so are those of both
+pub AllInRange-append : {A : Type 0} (f : A → Tree) (xs ys : List A) → AllInRange (trees_of f xs) → AllInRange (trees_of f ys)
+    → AllInRange (trees_of f (xs ++ ys))
+AllInRange-append f [] ys h r = r
+AllInRange-append f (x ∷ xs) ys h r = (h.0, AllInRange-append f xs ys h.1 r)
 
 -- if x is the element of xs at i, the first i + 1 elements are the first i and then x
 pub took : {A : Type 0} (xs : List A) (i : ℕ) (x : A) → i < length xs → x ≡ get_or xs i x → take (i + 1) xs ≡ take i xs ++ x ∷ []
 took xs i x h e = take_more xs i x h ∙ ap (λ y. take i xs ++ y ∷ []) (sym e)
-
--- A container has n children so far: the text is `before` and then their text, and `first` says that there are none.
-pub record ChildrenWritten (before theirs : List ℕ) (n : ℕ) (text : List ℕ) (first : Bool) : Type 0 where
-  pub is : text ≡ before ++ theirs
-  pub start : n ≡ 0 → first ≡ true
-  pub later : 0 < n → first ≡ false
-
--- what a turn of a loop over a list appends to the text of the n elements so far
-pub compact_children_turn : {A : Type 0} (f : A → Tree) (xs : List A) (x : A) {n : ℕ} {b : Bool}
-    {pre old mid new : List ℕ} → length xs ≡ n → ChildrenWritten pre (compact_children (trees_of f xs)) n old b
-    → mid ≡ old ++ cond b [] (44 ∷ []) → new ≡ mid ++ compact (f x)
-    → new ≡ pre ++ compact_children (trees_of f (xs ++ x ∷ []))
-compact_children_turn f xs x {b = b} len o m w =
-    let grown = compact_children-snoc f xs x b (λ z. o.start (sym len ∙ z)) (λ z. o.later (omega (arith, len))) in
-    rw (w, m, o.is, grown) (simp append_assoc refl)
 
 -- The elements xs are x and then `later`, which has one at least. If old and the text of xs make all, so do old, the text
 -- of x, a comma and the text of `later`.

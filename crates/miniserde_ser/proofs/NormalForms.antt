@@ -1,7 +1,8 @@
--- Lists and objects in normal form: a list of trees in normal form is one (`normal_children-snoc` for a turn of a loop over
--- its elements), and so is an object of such trees whose names rise (`rising_is_normal`).
-use Rattle.std.proofs.Common.{◌≡◌, ℕ, List, [], ◌∷◌, ◌++◌, Option, Some, None, refl, sym, ap, ap₂, subst, ◌∙◌, Less, option_map}
-use Rattle.miniserde_model.specs.Tree.{Tree, Trees, tree, no_trees, Members, no_members, member}
+-- Lists and objects in normal form: two lists in normal form make one (`normal_list-append`), and an object of trees in
+-- normal form whose names rise is in normal form (`rising_is_normal`).
+use Rattle.std.proofs.Common.{◌≡◌, ℕ, List, [], ◌∷◌, ◌++◌, Option, Some, None, IfSome, refl, sym, ap, ap₂, subst, ◌∙◌}
+use Rattle.std.proofs.Common.{Less, option_map}
+use Rattle.miniserde_model.specs.Tree.{Tree, list, Trees, tree, Members, no_members, member}
 use Rattle.miniserde_model.specs.Normal.{text_cmp, norm, norm_children, norm_members, with_if_absent, Rise}
 use Rattle.miniserde_model.proofs.Lookups.{first_of_all}
 use Rattle.miniserde_ser.specs.Trees.{trees_of, members_of, TreesAreNormal}
@@ -16,14 +17,17 @@ rising_is_normal no_members r n = refl
 rising_is_normal (member name t ms) r n =
     ap₂ (with_if_absent name) n.0 (rising_is_normal ms r.1 n.1) ∙ first_of_all name t ms r.0
 
--- if the trees of xs and the tree of x are in normal form, so are the trees of xs with x appended
-pub normal_children-snoc : {A : Type 0} (f : A → Tree) (xs : List A) (x : A)
-    → AreNormal (trees_of f xs) → norm (f x) ≡ f x → AreNormal (trees_of f (xs ++ x ∷ []))
-normal_children-snoc f [] x e h = ap (λ u. tree u no_trees) h
-normal_children-snoc f (y ∷ ys) x e h =
-    let first : norm (f y) ≡ f y = cc e in
-    let later : AreNormal (trees_of f ys) = cc e in
-    ap₂ tree first (normal_children-snoc f ys x later h)
+-- if a list of xs and one of ys are in normal form, so is one of both
+pub normal_list-append : {A : Type 0} (f : A → Tree) (xs ys : List A) → norm (list (trees_of f xs)) ≡ list (trees_of f xs)
+    → norm (list (trees_of f ys)) ≡ list (trees_of f ys) → norm (list (trees_of f (xs ++ ys))) ≡ list (trees_of f (xs ++ ys))
+normal_list-append {A} f xs ys e h = ap list (both xs (cc e))
+  where
+    both : (zs : List A) → AreNormal (trees_of f zs) → AreNormal (trees_of f (zs ++ ys))
+    both [] e = cc h
+    both (z ∷ zs) e =
+        let first : norm (f z) ≡ f z = cc e in
+        let later : AreNormal (trees_of f zs) = cc e in
+        ap₂ tree first (both zs later)
 
 module _ {K V : Type 0} (text : K → List ℕ) (f : V → Tree) where
   -- if the trees of the members of es and the tree of e are in normal form, so are those with e appended
@@ -44,16 +48,12 @@ abbrev pub EndsAt : {K V : Type 0} → Option K → List (K × V) → Type 0
 EndsAt None es = es ≡ []
 EndsAt {K} {V} (Some k) es = (ds : List (K × V)) × (e : K × V) × (es ≡ ds ++ e ∷ []) × (e.0 ≡ k)
 
--- names that rise still do with a further one, which comes after the last one
-pub rise_further : {K V : Type 0} (text : K → List ℕ) (f : V → Tree) (es : List (K × V)) (k : K) (d : K × V)
-    → Rise (members_of text f es) → EndsAt (Some k) es → text_cmp (text k) (text d.0) ≡ Less
-    → Rise (members_of text f (es ++ d ∷ []))
-rise_further text f es k d r (ds, e, is, last) l =
+-- Names that rise still do with a further one, if it comes after the last one, where there is one: o is what has the key
+-- of the last entry by `key`.
+pub rise_further : {K V X : Type 0} (text : K → List ℕ) (f : V → Tree) (es : List (K × V)) (key : X → K) (o : Option X)
+    (d : K × V) → Rise (members_of text f es) → EndsAt (option_map key o) es
+    → IfSome o (λ x. text_cmp (text (key x)) (text d.0) ≡ Less) → Rise (members_of text f (es ++ d ∷ []))
+rise_further text f es key None d r e l = rw e (tt, tt)
+rise_further text f es key (Some x) d r (ds, e, is, last) l =
     subst (λ xs. Rise (members_of text f (xs ++ d ∷ []))) (sym is)
     (rise-snoc text f ds e d (subst (λ xs. Rise (members_of text f xs)) is r) (ap (λ n. text_cmp (text n) (text d.0)) last ∙ l))
-
--- there are no entries, if they end with the key of none
-pub no_entries : {K V X : Type 0} (key : X → K) (o : Option X) {es : List (K × V)} → EndsAt (option_map key o) es
-    → ((x : X) → o ≡ Some x → ⊥) → es ≡ []
-no_entries key None e n = e
-no_entries key (Some x) e n = absurd (n x refl)

@@ -75,8 +75,8 @@ impl Model for Writer {
 }
 
 impl Writer {
-    ghost use Rattle.std.specs.Prelude.{◌≡◌, [], ◌++◌, true, false, OnOk, OnErr, IfOk, IsErrOf, IsUtf8, string_bytes};
-    ghost use Rattle.std.specs.Prelude.{string_capacity, ◌≤◌, if◌then◌else◌, codes, decimal};
+    ghost use Rattle.std.specs.Prelude.{◌≡◌, ◌<◌, [], ◌∷◌, ◌++◌, true, false, OnOk, OnErr, IfOk, IsErrOf, IsUtf8};
+    ghost use Rattle.std.specs.Prelude.{string_bytes, string_capacity, ◌≤◌, if◌then◌else◌, codes, decimal};
     ghost use Rattle.miniserde_model.specs.Compact.{compact, string_text};
     ghost use Rattle.miniserde_model.specs.declared.error.Error.TheVariants.{Memory};
     ghost use Rattle.miniserde_ser.specs.Writer.{Appends, with_normal, with_refused};
@@ -188,13 +188,44 @@ impl Writer {
         }
     }
 
+    // Appends `mark`, a bracket or a comma. Returns `Memory` if the text cannot grow or an earlier call failed.
+    #[inline(always)]
+    fn append_mark(&mut self, mark: char) -> Result<()>
+        requires ascii { mark < 128 }
+        ensures { Appends self.old (mark ∷ []) self.old.first result self.new }
+    {
+        if self.text.len() < self.text.capacity() {
+            self.text.push(mark).unwrap();
+            return Ok(());
+        }
+        match self.append_mark_growing(mark) {
+            Ok(()) => Ok(()),
+            Err(_) => Err(self.refuse()),
+        }
+    }
+
+    // Appends a mark as `append_mark` does. Kept out of line, since it is seldom called.
+    #[inline(never)]
+    fn append_mark_growing(&mut self, mark: char) -> Result<()>
+        requires ascii { mark < 128 }
+        ensures { Appends self.old (mark ∷ []) self.old.first result self.new }
+    {
+        self.check()?;
+        if self.text.reserve(1).is_err() {
+            return Err(self.refuse());
+        }
+        self.text.push(mark).unwrap();
+        Ok(())
+    }
+
     // Appends `mark`, a bracket or a comma. `first` says whether an element or a member right after it is the first of
     // its container. Returns `Memory` if the text cannot grow or an earlier call failed.
     #[inline(always)]
-    fn punctuate(&mut self, mark: &str, first: bool) -> Result<()>
-        ensures { Appends self.old mark.now first result self.new }
+    fn punctuate(&mut self, mark: char, first: bool) -> Result<()>
+        requires ascii { mark < 128 }
+        ensures { Appends self.old (mark ∷ []) first result self.new }
     {
-        self.append(mark)?;
+        self.append_mark(mark)?;
         self.first = first;
         Ok(())
     }
@@ -219,7 +250,7 @@ impl Writer {
     pub fn seq(&mut self) -> Result<()>
         ensures { Appends self.old (codes "[") true result self.new }
     {
-        self.punctuate("[", true)
+        self.punctuate('[', true)
     }
 
     /// Begins an element of a list: appends a comma unless the element is the first. Returns `Memory` if the text
@@ -233,14 +264,14 @@ impl Writer {
             self.first = false;
             return Ok(());
         }
-        self.append(",")
+        self.append_mark(',')
     }
 
     /// Closes a list: appends `]`. Returns `Memory` if the text cannot grow or an earlier call failed.
     pub fn seq_finish(&mut self) -> Result<()>
         ensures { Appends self.old (codes "]") false result self.new }
     {
-        self.punctuate("]", false)
+        self.punctuate(']', false)
     }
 
     /// Opens an object with names in any order: appends `{`. Returns `Memory` if the text cannot grow or an earlier call
@@ -249,7 +280,7 @@ impl Writer {
         ensures { Appends (with_normal self.old false) (codes "{") true result self.new }
     {
         self.normal = false;
-        self.punctuate("{", true)
+        self.punctuate('{', true)
     }
 
     /// Opens an object whose names rise in byte order: appends `{`. The writer does not check the order: the contract of
@@ -257,7 +288,7 @@ impl Writer {
     pub fn map_in_order(&mut self) -> Result<()>
         ensures { Appends self.old (codes "{") true result self.new }
     {
-        self.punctuate("{", true)
+        self.punctuate('{', true)
     }
 
     /// Begins a member of an object: appends a comma unless the member is the first, then its name as a string, and a
@@ -293,7 +324,7 @@ impl Writer {
     pub fn map_finish(&mut self) -> Result<()>
         ensures { Appends self.old (codes "}") false result self.new }
     {
-        self.punctuate("}", false)
+        self.punctuate('}', false)
     }
 
     /// Makes every later call fail, and returns `Memory`. A value calls it if it fails to allocate memory of its own.

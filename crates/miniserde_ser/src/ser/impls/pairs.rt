@@ -10,10 +10,10 @@ impl<A: Serialize, B: Serialize> Serialize for (A, B) {
     fn begin(&self, w: &mut Writer) -> Result<()> {
         let (first, second) = self;
         // No call of `seq` or `element`, since it is known which element is the first.
-        w.punctuate("[", false)?;
+        w.punctuate('[', false)?;
         first.begin(w)?;
-        w.punctuate(",", false)?;
+        w.punctuate(',', false)?;
         second.begin(w)?;
-        w.punctuate("]", false)
+        w.punctuate(']', false)
     }
 }

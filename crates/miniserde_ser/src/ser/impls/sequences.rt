@@ -1,8 +1,8 @@
 //! Writes slices, arrays, `Vec` and `VecDeque`, as lists.
 ghost use Rattle.std.specs.Prelude.{◌≡◌, ◌++◌, false, true, OnOk, OnErr, IsErrOf};
 ghost use Rattle.miniserde_model.specs.Tree.{list};
-ghost use Rattle.miniserde_model.specs.Compact.{compact};
-ghost use Rattle.miniserde_model.specs.InRange.{InRange};
+ghost use Rattle.miniserde_model.specs.Compact.{compact, compact_children};
+ghost use Rattle.miniserde_model.specs.InRange.{InRange, AllInRange};
 ghost use Rattle.miniserde_model.specs.declared.error.Error.TheVariants.{Memory};
 ghost use Rattle.miniserde_ser.specs.Trees.{trees_of};
 ghost use Rattle.miniserde_ser.specs.Writer.{KeepsNormal};
@@ -10,6 +10,28 @@ ghost use Rattle.miniserde_ser.specs.Writer.{KeepsNormal};
 use crate::ser::{Serialize, Writer};
 use miniserde_model::error::Result;
 use std::collections::VecDeque;
+
+// Writes the items with a comma between each two. Returns `Memory` if an allocation fails.
+#[inline(always)]
+fn write_each<T: Serialize>(items: &[T], w: &mut Writer) -> Result<()>
+    requires { w.old.refused ≡ false }
+    ensures ok { OnOk result (w.new.text ≡ w.old.text ++ compact_children (trees_of T.tree items.now)) }
+    ensures in_range { OnOk result (AllInRange (trees_of T.tree items.now)) }
+    ensures normal { OnOk result (KeepsNormal w.old (list (trees_of T.tree items.now)) w.new) }
+    ensures unrefused { OnOk result (w.new.refused ≡ false) }
+    ensures memory { OnErr result (IsErrOf result Memory) }
+    ensures err { OnErr result (w.new.refused ≡ true) }
+{
+    let mut rest = items;
+    while let Some((item, later)) = rest.split_first() {
+        item.begin(w)?;
+        if !later.is_empty() {
+            w.append_mark(',')?;
+        }
+        rest = later;
+    }
+    Ok(())
+}
 
 // Writes a list of the items. Returns `Memory` if an allocation fails or an earlier call of the
 // writer failed.
@@ -24,14 +46,7 @@ fn write_items<T: Serialize>(items: &[T], w: &mut Writer) -> Result<()>
     ensures err { OnErr result (w.new.refused ≡ true) }
 {
     w.seq()?;
-    let mut rest = items;
-    while let Some((item, later)) = rest.split_first() {
-        item.begin(w)?;
-        if !later.is_empty() {
-            w.append(",")?;
-        }
-        rest = later;
-    }
+    write_each(items, w)?;
     w.seq_finish()
 }
 
@@ -63,11 +78,15 @@ impl<T: Serialize> Serialize for VecDeque<T> {
     ghost tree = { λ q. list (trees_of T.tree q.items) };
 
     fn begin(&self, w: &mut Writer) -> Result<()> {
+        let (front, back) = self.as_slices();
         w.seq()?;
-        for x in self {
-            w.element()?;
-            x.begin(w)?;
+        write_each(front, w)?;
+        if back.is_empty() {
+            return w.seq_finish();
         }
+        // An item stands before those of `back`.
+        w.append_mark(',')?;
+        write_each(back, w)?;
         w.seq_finish()
     }
 }

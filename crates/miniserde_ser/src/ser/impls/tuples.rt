@@ -1,5 +1,5 @@
 //! Writes tuples of three to six items, as lists.
-ghost use Rattle.std.specs.Prelude.{◌≡◌, ◌++◌, false, true, OnOk, OnErr, IsErrOf};
+ghost use Rattle.std.specs.Prelude.{◌≡◌, ◌<◌, [], ◌∷◌, ◌++◌, false, true, OnOk, OnErr, IsErrOf};
 ghost use Rattle.miniserde_model.specs.Tree.{list, no_trees, tree};
 ghost use Rattle.miniserde_model.specs.Compact.{compact};
 ghost use Rattle.miniserde_model.specs.InRange.{InRange};
@@ -12,8 +12,9 @@ use miniserde_model::error::Result;
 // Writes `before`, an opening bracket or a comma, and then an item of a list. Returns `Memory` if an allocation fails
 // or an earlier call of the writer failed.
 #[inline(always)]
-fn write_item<T: Serialize>(item: &T, before: &str, w: &mut Writer) -> Result<()>
-    ensures ok { OnOk result (w.new.text ≡ w.old.text ++ before.now ++ compact (T.tree item.now)) }
+fn write_item<T: Serialize>(item: &T, before: char, w: &mut Writer) -> Result<()>
+    requires ascii { before < 128 }
+    ensures ok { OnOk result (w.new.text ≡ w.old.text ++ (before ∷ []) ++ compact (T.tree item.now)) }
     ensures in_range { OnOk result (InRange (T.tree item.now)) }
     ensures normal { OnOk result (KeepsNormal w.old (T.tree item.now) w.new) }
     ensures first { OnOk result (w.new.first ≡ false) }
@@ -31,10 +32,10 @@ impl<A: Serialize, B: Serialize, C: Serialize> Serialize for (A, B, C) {
 
     fn begin(&self, w: &mut Writer) -> Result<()> {
         let (a, b, c) = self;
-        write_item(a, "[", w)?;
-        write_item(b, ",", w)?;
-        write_item(c, ",", w)?;
-        w.punctuate("]", false)
+        write_item(a, '[', w)?;
+        write_item(b, ',', w)?;
+        write_item(c, ',', w)?;
+        w.punctuate(']', false)
     }
 }
 
@@ -43,11 +44,11 @@ impl<A: Serialize, B: Serialize, C: Serialize, D: Serialize> Serialize for (A, B
 
     fn begin(&self, w: &mut Writer) -> Result<()> {
         let (a, b, c, d) = self;
-        write_item(a, "[", w)?;
-        write_item(b, ",", w)?;
-        write_item(c, ",", w)?;
-        write_item(d, ",", w)?;
-        w.punctuate("]", false)
+        write_item(a, '[', w)?;
+        write_item(b, ',', w)?;
+        write_item(c, ',', w)?;
+        write_item(d, ',', w)?;
+        w.punctuate(']', false)
     }
 }
 
@@ -58,12 +59,12 @@ impl<A: Serialize, B: Serialize, C: Serialize, D: Serialize, E: Serialize> Seria
 
     fn begin(&self, w: &mut Writer) -> Result<()> {
         let (a, b, c, d, e) = self;
-        write_item(a, "[", w)?;
-        write_item(b, ",", w)?;
-        write_item(c, ",", w)?;
-        write_item(d, ",", w)?;
-        write_item(e, ",", w)?;
-        w.punctuate("]", false)
+        write_item(a, '[', w)?;
+        write_item(b, ',', w)?;
+        write_item(c, ',', w)?;
+        write_item(d, ',', w)?;
+        write_item(e, ',', w)?;
+        w.punctuate(']', false)
     }
 }
 
@@ -74,12 +75,12 @@ impl<A: Serialize, B: Serialize, C: Serialize, D: Serialize, E: Serialize, F: Se
 
     fn begin(&self, w: &mut Writer) -> Result<()> {
         let (a, b, c, d, e, f) = self;
-        write_item(a, "[", w)?;
-        write_item(b, ",", w)?;
-        write_item(c, ",", w)?;
-        write_item(d, ",", w)?;
-        write_item(e, ",", w)?;
-        write_item(f, ",", w)?;
-        w.punctuate("]", false)
+        write_item(a, '[', w)?;
+        write_item(b, ',', w)?;
+        write_item(c, ',', w)?;
+        write_item(d, ',', w)?;
+        write_item(e, ',', w)?;
+        write_item(f, ',', w)?;
+        w.punctuate(']', false)
     }
 }

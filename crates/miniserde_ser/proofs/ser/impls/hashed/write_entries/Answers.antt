@@ -1,13 +1,12 @@
--- A turn writes one member: `compact_members_step` gives the text with it, and `MembersInRange_step` says that its
--- name is UTF-8 and its tree in range. After the turn the index is not 0, so the flag `first` is false.
+-- A turn writes one member (`MembersWritten_step`). At the end the entries before the index are all entries (`take_all`).
 use Rattle.std.proofs.Common.{◌≡◌, ◌∷◌, [], false, arith, ap, sym, subst, ◌∙◌, take, string_bytes, Bor}
-use Rattle.std.proofs.lemmas.List.{length-take-le, take_all}
+use Rattle.std.proofs.lemmas.List.{take_all}
 use Rattle.std.proofs.lemmas.Result.{on_ok_weaker}
 use Rattle.miniserde_model.specs.Tree.{Tree, members}
 use Rattle.miniserde_ser.specs.Trees.{members_of, TreesAreNormal}
 use Rattle.miniserde_ser.specs.Writer.{with_first_flag, after_append}
 use Rattle.miniserde_ser.proofs.Items.{took}
-use Rattle.miniserde_ser.proofs.Members.{compact_members_step, MembersInRange_step}
+use Rattle.miniserde_ser.proofs.Members.{MembersWritten_step}
 use Rattle.miniserde_ser.proofs.NormalForms.{TreesAreNormal-snoc, rising_is_normal}
 use Rattle.miniserde_ser.proofs.ser.impls.hashed.write_entries.Goals as goal
 
@@ -20,19 +19,14 @@ loop-entry-preserved g c =
     let inv = c.loop-entry.invariant in
     let at = rw c.as_str.ensures.value at c.in_ok-key.ensures.appends.ok in
     let utf8 = rw c.as_str.ensures.value at c.in_ok-key.ensures.utf8 in
+    let wrote = c.in_ok-begin.ensures in
     rw (took entries i entry (omega arith) c.entry-item.is) (record {
-      text = compact_members_step string_bytes f (take i entries) entry (length-take-le i entries (omega arith))
-          (record { is = inv.text; start = inv.start; later = inv.later }) (ap (λ s. s.text) at)
-          c.in_ok-begin.ensures.ok;
-      all_in_range = MembersInRange_step string_bytes f (take i entries) entry inv.all_in_range utf8 c.in_ok-begin.ensures.in_range;
+      written = MembersWritten_step string_bytes f (take i entries) entry inv.written at utf8 wrote.ok wrote.in_range wrote.first
+          wrote.unrefused;
       normal = λ n.
-          let kept = c.in_ok-begin.ensures.normal n in
+          let kept = wrote.normal n in
           let so = inv.normal (sym (ap (λ s. s.normal) at) ∙ kept.0) in
           (so.0, TreesAreNormal-snoc string_bytes f (take i entries) entry so.1 kept.1);
-      start = λ z. absurd (omega arith);
-      later = λ _. c.in_ok-begin.ensures.first (ap (λ s. s.first) at);
-      unrefused = c.in_ok-begin.ensures.unrefused;
-      was_running = inv.was_running;
     })
 
 pub returns-clause-normal : goal.returns-clause-normal

@@ -1,23 +1,18 @@
--- The text is the old text, `{` and the members of the entries that the iterator has yielded, and these are in range.
--- If the flag `normal` is true, it was true before, the names of the map rise, and the trees of these members are in normal
--- form. The flag `first` is true before the first entry and false after it. The writer has not failed.
-use Rattle.std.proofs.Common.{◌≡◌, ◌++◌, [], ◌∷◌, false, true, ◌<◌, length, map}
+-- The members of the entries that the iterator has yielded are written (`MembersWritten`), and `earlier` is the key of the
+-- last of them. If the flag `normal` is true, it was true before, their names rise, and their trees are in normal form.
+use Rattle.std.proofs.Common.{◌≡◌, true, map, option_map}
 use Rattle.std.specs.Map.Iter.{deref_pair}
-use Rattle.miniserde_model.specs.Compact.{compact_members}
-use Rattle.miniserde_model.specs.InRange.{MembersInRange}
 use Rattle.miniserde_model.specs.Normal.{Rise}
 use Rattle.miniserde_ser.specs.Trees.{members_of, TreesAreNormal}
+use Rattle.miniserde_ser.proofs.Members.{MembersWritten}
+use Rattle.miniserde_ser.proofs.NormalForms.{EndsAt}
 use Rattle.miniserde_ser.proofs.ser.impls.maps.BTreeMapSerialize.begin.Given as goal
 
 abbrev pub invariant-loop-key : goal.invariant-loop-key
 invariant-loop-key g l = record {
-  text : l.w.text ≡ (l.fn.w.text ++ 123 ∷ []) ++ compact_members (members_of g.K.MapKey.text g.V.Serialize.tree (map deref_pair l.yielded));
-  all_in_range : MembersInRange (members_of g.K.MapKey.text g.V.Serialize.tree (map deref_pair l.yielded));
+  written : MembersWritten g.K.MapKey.text g.V.Serialize.tree l.fn.w (map deref_pair l.yielded) l.w;
   normal : l.w.normal ≡ true → (l.fn.w.normal ≡ true)
-      × Rise (members_of g.K.MapKey.text g.V.Serialize.tree l.self.entries)
+      × Rise (members_of g.K.MapKey.text g.V.Serialize.tree (map deref_pair l.yielded))
       × TreesAreNormal (members_of g.K.MapKey.text g.V.Serialize.tree (map deref_pair l.yielded));
-  start : length l.yielded ≡ 0 → l.w.first ≡ true;
-  later : 0 < length l.yielded → l.w.first ≡ false;
-  unrefused : l.w.refused ≡ false;
-  was_running : l.fn.w.refused ≡ false;
+  ends : EndsAt (option_map (λ k. k.now) l.earlier) (map deref_pair l.yielded);
 }

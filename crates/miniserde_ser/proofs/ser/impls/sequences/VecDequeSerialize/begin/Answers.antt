@@ -1,28 +1,42 @@
--- A turn writes one element: `compact_children_turn` gives the text with it, and `AllInRange-snoc` says that the
--- trees with it are in range, `normal_children-snoc` that they are in normal form.
-use Rattle.std.proofs.Common.{◌∷◌, [], arith, ap, sym, ◌∙◌, length-append, map}
-use Rattle.std.proofs.lemmas.List.{map-append, length-map}
-use Rattle.miniserde_ser.proofs.Items.{compact_children_turn, AllInRange-snoc}
-use Rattle.miniserde_ser.proofs.NormalForms.{normal_children-snoc}
+-- The items are those of `front` and then those of `back`. Where `back` has some, so has `front`, and a comma stands between
+-- the two (`compact_parts`).
+use Rattle.std.proofs.Common.{◌≡◌, ◌<◌, ◌∷◌, [], arith, ap, sym, subst, ◌∙◌, length, false}
+use Rattle.std.proofs.lemmas.Bool.Decides.{nat_tests}
+use Rattle.std.proofs.lemmas.Result.{on_ok_weaker}
+use Rattle.miniserde_model.specs.InRange.{AllInRange}
+use Rattle.miniserde_model.specs.Normal.{norm}
+use Rattle.miniserde_model.specs.Tree.{list}
+use Rattle.miniserde_ser.specs.Trees.{trees_of}
+use Rattle.miniserde_ser.specs.Writer.{with_first_flag, after_append}
+use Rattle.miniserde_ser.proofs.Items.{compact_parts, AllInRange-append, appends_text}
+use Rattle.miniserde_ser.proofs.NormalForms.{normal_list-append}
 use Rattle.miniserde_ser.proofs.ser.impls.sequences.VecDequeSerialize.begin.Goals as goal
 
-pub loop-x-preserved : goal.loop-x-preserved
-loop-x-preserved g c =
+pub returns-clause-ok : goal.returns-clause-ok
+returns-clause-ok g c =
+    let front = c.as_slices.result.0.now in
+    let back = c.as_slices.result.1.now in
+    let later : 0 < length back = grind (arith, nat_tests, c.is_empty.ensures, c.if-is_empty.false) in
+    let first : 0 < length front = c.as_slices.ensures.first_filled.1 (omega (arith, later, c.as_slices.ensures.len)) in
+    appends_text c.seq_finish-2.ensures (compact_parts g.T.Serialize.tree front back _ c.as_slices.ensures.items first later
+    (ap (λ s. s.text) c.in_ok-seq.ensures.ok) c.in_ok-write_each.ensures.ok (ap (λ s. s.text) c.in_ok-append_mark.ensures.ok)
+    c.in_ok-write_each-2.ensures.ok)
+
+pub returns-clause-in_range : goal.returns-clause-in_range
+returns-clause-in_range g c =
     let f = g.T.Serialize.tree in
-    let done = c.loop-x.yielded in
-    let so_far = map (λ x. x.now) done in
-    let inv = c.loop-x.invariant in
-    let e = c.in_ok-element.ensures.ok in
-    rw (map-append (λ x. x.now) done (c.in-Some.x ∷ [])) (record {
-      text = compact_children_turn f so_far c.in-Some.x.now (length-map done (λ x. x.now))
-          (record { is = inv.text; start = inv.start; later = inv.later }) (ap (λ s. s.text) e) c.in_ok-begin.ensures.ok;
-      all_in_range = AllInRange-snoc f so_far c.in-Some.x.now inv.all_in_range c.in_ok-begin.ensures.in_range;
-      normal = λ n.
-          let kept = c.in_ok-begin.ensures.normal n in
-          let so = inv.normal (sym (ap (λ s. s.normal) e) ∙ kept.0) in
-          (so.0, normal_children-snoc f so_far c.in-Some.x.now so.1 kept.1);
-      start = λ z. absurd (omega (arith, length-append done (c.in-Some.x ∷ []), z));
-      later = λ _. c.in_ok-begin.ensures.first (ap (λ s. s.first) e);
-      unrefused = c.in_ok-begin.ensures.unrefused;
-      was_running = inv.was_running;
-    })
+    let both = AllInRange-append f _ _ c.in_ok-write_each.ensures.in_range c.in_ok-write_each-2.ensures.in_range in
+    on_ok_weaker c.seq_finish-2.result (λ _. subst (λ xs. AllInRange (trees_of f xs)) c.as_slices.ensures.items both)
+    c.seq_finish-2.ensures.ok
+
+pub returns-clause-normal : goal.returns-clause-normal
+returns-clause-normal g c =
+    let f = g.T.Serialize.tree in
+    on_ok_weaker c.seq_finish-2.result
+    (λ (e : c.seq_finish-2.new.self ≡ with_first_flag (after_append c.write_each-2.new.w (93 ∷ []) c.seq_finish-2.new.self.capacity) false) n.
+    let back = c.in_ok-write_each-2.ensures.normal (sym (ap (λ s. s.normal) e) ∙ n) in
+    let front = c.in_ok-write_each.ensures.normal (sym (ap (λ s. s.normal) c.in_ok-append_mark.ensures.ok) ∙ back.0) in (
+      sym (ap (λ s. s.normal) c.in_ok-seq.ensures.ok) ∙ front.0,
+      subst (λ xs. norm (list (trees_of f xs)) ≡ list (trees_of f xs)) c.as_slices.ensures.items (normal_list-append f _ _ front.1 back.1),
+    ))
+    c.seq_finish-2.ensures.ok

@@ -7,21 +7,20 @@ use Rattle.miniserde_model.specs.Tree.{tree}
 use Rattle.miniserde_ser.specs.Trees.{trees_of}
 use Rattle.miniserde_ser.proofs.Items.{compact_children_later}
 use Rattle.miniserde_ser.proofs.NormalForms.{AreNormal}
-use Rattle.miniserde_ser.proofs.ser.impls.sequences.write_items.Goals as goal
+use Rattle.miniserde_ser.proofs.ser.impls.sequences.write_each.Goals as goal
 
-pub loop-item-preserved-in_ok-append : goal.loop-item-preserved-in_ok-append
-loop-item-preserved-in_ok-append g c =
+pub loop-item-preserved-in_ok-append_mark : goal.loop-item-preserved-in_ok-append_mark
+loop-item-preserved-in_ok-append_mark g c =
     let f = g.T.Serialize.tree in
     let inv = c.loop-item.invariant in
     let split = c.in-Some.ensures.cases in
     record {
       text = compact_children_later f c.in-Some.later.now _ split.0
           (grind (arith, nat_tests, c.is_empty.ensures, c.if-not-is_empty.true)) inv.text c.in_ok-begin.ensures.ok
-          (ap (λ s. s.text) c.in_ok-append.ensures.ok);
+          (ap (λ s. s.text) c.in_ok-append_mark.ensures.ok);
       in_range = λ r. inv.in_range (subst (λ xs. AllInRange (trees_of f xs)) (sym split.0) (c.in_ok-begin.ensures.in_range, r));
       normal = λ a n.
-          let kept = c.in_ok-begin.ensures.normal (sym (ap (λ s. s.normal) c.in_ok-append.ensures.ok) ∙ n) in
+          let kept = c.in_ok-begin.ensures.normal (sym (ap (λ s. s.normal) c.in_ok-append_mark.ensures.ok) ∙ n) in
           inv.normal (subst (λ xs. AreNormal (trees_of f xs)) (sym split.0) (ap₂ tree kept.1 a)) kept.0;
-      unrefused = ap (λ s. s.refused) c.in_ok-append.ensures.ok ∙ c.in_ok-begin.ensures.unrefused;
-      was_running = inv.was_running;
+      unrefused = ap (λ s. s.refused) c.in_ok-append_mark.ensures.ok ∙ c.in_ok-begin.ensures.unrefused;
     }
