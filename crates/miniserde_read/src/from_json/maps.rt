@@ -9,6 +9,7 @@ ghost use Rattle.miniserde_read.specs.Events.{EventInRange};
 ghost use Rattle.miniserde_read.specs.types.Maps.{key_meaning, map_content, with_entry};
 
 use super::FromJson;
+use crate::children::read_due;
 use crate::source::Source;
 use miniserde_keys::MapKey;
 use miniserde_model::error::{Error, Result};
@@ -105,8 +106,7 @@ fn read_table<'a, V: FromJson, M: Table<Value = V>>(
     while let After::Next = next {
         let name = source.name()?;
         let key = <M::Key as MapKey>::from_key(source.alloc(), source.text(name))?;
-        let token = source.token()?;
-        let value = V::read(token, source)?;
+        let value = read_due(source)?;
         table.put(key, value)?;
         next = source.after(Kind::Map, false)?;
     }

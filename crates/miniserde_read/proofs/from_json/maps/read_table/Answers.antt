@@ -8,9 +8,8 @@ use Rattle.miniserde_model.specs.Tree.{no_members}
 use Rattle.miniserde_model.specs.declared.kind.Kind.TheVariants.{Map}
 use Rattle.miniserde_text.specs.Lexer.{is_close}
 use Rattle.miniserde_read.specs.types.Maps.{map_content, map_member, with_entry, no_entries}
-use Rattle.miniserde_read.proofs.Due.{due_less, due_reads, due_rejects}
+use Rattle.miniserde_read.proofs.Due.{due_less}
 use Rattle.miniserde_read.proofs.Length.{follows_least, stands_least}
-use Rattle.miniserde_read.proofs.Tokens.{start_event}
 use Rattle.miniserde_read.proofs.Inserts.{put-joined}
 use Rattle.miniserde_read.proofs.Maps.{entry_goes, key_none, entry_none}
 use Rattle.miniserde_read.proofs.Objects.{object_begins, no_member_follows, no_name_follows, object_gives, object_rejects}
@@ -37,38 +36,27 @@ returns-in_err-key-clause-invalid g c = λ e.
     (rw c.in-Next.is at c.loop-next.invariant.goes) _ _ c.in_ok-name.name c.in_ok-name.ensures.ok
     (rw c.text.ensures at (c.in_err-key.ensures.invalid (cc (w.1, w.2, e)))))
 
-pub returns-in_err-token-clause-invalid : goal.returns-in_err-token-clause-invalid
-returns-in_err-token-clause-invalid g c = λ e.
-    let w = err_from_is_err_and c.from_residual-in_err-token.result c.from_residual-in_err-token.ensures.1 in
-    object_rejects _ _ _ c.in-MapStart.is (entry_none g.M.Key.MapKey.read g.M.Key.MapKey.code g.V.FromJson.means.from_tree
-    (rw c.in-Next.is at c.loop-next.invariant.goes) _ _ c.in_ok-name.name c.in_ok-name.ensures.ok
-    (λ t ev b r k v. absurd (c.in_err-token.ensures.invalid (cc (w.1, w.2, e)) c.in_ok-name.ensures.going ev b k)))
-
-pub read-requires-clause-event : goal.read-requires-clause-event
-read-requires-clause-event g c = start_event _ _ _ c.in_ok-token.ensures.ok
-
 pub returns-in_err-value-clause-invalid : goal.returns-in_err-value-clause-invalid
 returns-in_err-value-clause-invalid g c = λ e.
     let w = err_from_is_err_and c.from_residual-in_err-value.result c.from_residual-in_err-value.ensures.1 in
     object_rejects _ _ _ c.in-MapStart.is (entry_none g.M.Key.MapKey.read g.M.Key.MapKey.code g.V.FromJson.means.from_tree
-    (rw c.in-Next.is at c.loop-next.invariant.goes) _ _ c.in_ok-name.name c.in_ok-name.ensures.ok (due_rejects g.V.FromJson.means.from_tree _ _ _
-    c.in_ok-token.ensures.ok (c.in_err-value.ensures.invalid (cc (w.1, w.2, e)))))
+    (rw c.in-Next.is at c.loop-next.invariant.goes) _ _ c.in_ok-name.name c.in_ok-name.ensures.ok
+    (c.in_err-value.ensures.invalid (cc (w.1, w.2, e))))
 
 pub returns-in_err-next-2-clause-invalid : goal.returns-in_err-next-2-clause-invalid
 returns-in_err-next-2-clause-invalid g c = λ e.
     let w = err_from_is_err_and c.from_residual-in_err-next-2.result c.from_residual-in_err-next-2.ensures.1 in
     let goes = entry_goes g.M.Key.MapKey.read g.M.Key.MapKey.code g.V.FromJson.means.from_tree
     (rw c.in-Next.is at c.loop-next.invariant.goes) _ _ c.in_ok-name.name c.in_ok-name.ensures.ok _ _ _
-    (rw c.text.ensures at c.in_ok-key.ensures.value)
-    (due_reads g.V.FromJson.means.from_tree _ c.in_ok-token.ensures.ok c.in_ok-value.ensures.ok) in
+    (rw c.text.ensures at c.in_ok-key.ensures.value) c.in_ok-value.ensures.ok in
     object_rejects _ _ _ c.in-MapStart.is (λ ms r p. absurd (no_member_follows goes
     (c.in_err-next-2.ensures.invalid (cc (w.1, w.2, e)) c.in_ok-value.ensures.going) ms r p))
 
 pub loop-next-smaller : goal.loop-next-smaller
 loop-next-smaller g c =
     let a = stands_least c.loop-next.source.rest _ c.in_ok-name.ensures.ok in
-    let b = due_less (due_reads g.V.FromJson.means.from_tree _ c.in_ok-token.ensures.ok c.in_ok-value.ensures.ok) in
-    let d = follows_least Map false (is_close c.in_ok-next-2.next) c.read.new.source.rest _ c.in_ok-next-2.ensures.ok in
+    let b = due_less c.in_ok-value.ensures.ok in
+    let d = follows_least Map false (is_close c.in_ok-next-2.next) c.read_due.new.source.rest _ c.in_ok-next-2.ensures.ok in
     omega (arith, a, b, d)
 
 pub loop-next-preserved : goal.loop-next-preserved
@@ -85,11 +73,10 @@ loop-next-preserved g c =
       going = c.in_ok-next-2.ensures.going;
       goes = record {
         first = false;
-        before = c.read.new.source.rest;
+        before = c.read_due.new.source.rest;
         goes = rw put (entry_goes g.M.Key.MapKey.read code g.V.FromJson.means.from_tree
             (rw c.in-Next.is at c.loop-next.invariant.goes) _ _ c.in_ok-name.name c.in_ok-name.ensures.ok _ _ _
-            (rw c.text.ensures at c.in_ok-key.ensures.value)
-            (due_reads g.V.FromJson.means.from_tree _ c.in_ok-token.ensures.ok c.in_ok-value.ensures.ok));
+            (rw c.text.ensures at c.in_ok-key.ensures.value) c.in_ok-value.ensures.ok);
         follows = c.in_ok-next-2.ensures.ok;
       };
     }
