@@ -1,6 +1,6 @@
 -- While a list is read child by child, the items so far with those of the remaining children are the items of the
 -- whole list. `ListGoes` is this invariant: `list_begins` establishes it, `list_goes` carries it over one child, and
--- `closed_list_gives` uses it where the loop ends.
+-- `closed_list_gives` uses it where the loop ends. A loop that takes the next bracket or comma ahead keeps `ListNext`.
 use Rattle.std.proofs.Common.{◌≡◌, ℕ, Bool, true, false, List, [], ◌∷◌, ◌++◌, map, Option, Some, None, refl, ap}
 use Rattle.std.proofs.Common.{subst, ◌∙◌, append-nil, append_assoc, arith}
 use Rattle.std.specs.Prelude.{option_and_then, option_map}
@@ -12,12 +12,13 @@ use Rattle.miniserde_model.specs.declared.kind.Kind.TheVariants.{Seq}
 use Rattle.miniserde_text.specs.Lexer.{event_of_token}
 use Rattle.miniserde_text.specs.declared.json.lex.Event.{Event}
 use Rattle.miniserde_text.specs.declared.json.lex.Event.TheVariants.{SeqStart}
-use Rattle.miniserde_read.specs.Due.{NextElement}
+use Rattle.miniserde_read.specs.Due.{ReadsDue, RejectsDue, NextElement}
 use Rattle.miniserde_read.specs.Meaning.{Meaning}
 use Rattle.miniserde_read.specs.types.Lists.{each}
 use Rattle.miniserde_read.specs.Rest.{ValueAt, ElementsAt, GivesNoneAt}
+use Rattle.miniserde_read.proofs.Due.{element_rejects}
 use Rattle.miniserde_read.proofs.Same.{value_same, tag, first_event, value_event}
-use Rattle.miniserde_read.proofs.Steps.{elements_there, elements_close}
+use Rattle.miniserde_read.proofs.Steps.{elements_follow, elements_there, elements_close}
 
 -- The list began with the text `begin` behind its bracket. What is left, s, goes on as some elements exactly where the
 -- whole goes on from the beginning, and the whole gives the contents of the items and then those of the elements left.
@@ -26,6 +27,14 @@ pub record ListGoes {V : Type 0} (m : Meaning V) (begin : List ℕ) (first : Boo
       × (each m.from_tree ts ≡ option_map (λ xs. map m.content items ++ xs) (each m.from_tree us))
   pub back : (ts : Trees) (r : List ℕ) → ElementsAt ts true begin r → (us : Trees) × ElementsAt us first s r
       × (each m.from_tree ts ≡ option_map (λ xs. map m.content items ++ xs) (each m.from_tree us))
+
+-- The list began with the text `begin` behind its bracket, and gave the items. Then its closing bracket was taken, if
+-- `close` is true, or what stands before its next element; s is left.
+pub record ListNext {V : Type 0} (m : Meaning V) (begin : List ℕ) (close : Bool) (s : List ℕ) (items : List V) : Type 0 where
+  pub first : Bool
+  pub before : List ℕ
+  pub goes : ListGoes m begin first before items
+  pub follows : Follows Seq first close before s
 
 -- what begins with `[` is a list
 opened_list : (t : Tree) (s r : List ℕ) → ValueAt t seq s r → (ts : Trees) × (t ≡ list ts) × ElementsAt ts true s r
@@ -53,6 +62,9 @@ module _ {V : Type 0} (m : Meaning V) where
       as (λ o. option_map (λ xs. map m.content items ++ xs) (option_and_then (λ xs. Some (m.content v ∷ xs)) o)
       ≡ option_map (λ xs. (map m.content items ++ m.content v ∷ []) ++ xs) o)
       [ None ↦ refl | Some xs ↦ simp append_assoc ])
+
+  none_more : (items : List V) (t : Tree) (us : Trees) → m.from_tree t ≡ None → with items (tree t us) ≡ None
+  none_more items t us e = rw e refl
 
   pub list_begins : (begin : List ℕ) → ListGoes m begin true begin []
   list_begins begin = record { on = λ us r p. (us, p, all_left us); back = λ ts r p. (ts, p, all_left ts) }
@@ -100,3 +112,24 @@ module _ {V : Type 0} {m : Meaning V} {begin : List ℕ} where
   closed_list_gives_no_other {f} {s} {items} b g h ts r p =
       let a = g.back ts r p in
       a.2 ∙ ap (with m items) (elements_close a.0 f s b r h a.1).0 ∙ ap Some (append-nil (map m.content items))
+
+  -- neither the closing bracket nor an element is next
+  pub no_list_follows : {f : Bool} {s : List ℕ} {items : List V} → ListGoes m begin f s items
+      → ((a : Bool) (b : List ℕ) → Follows Seq f a s b → ⊥) → (ts : Trees) (r : List ℕ) → ElementsAt ts true begin r
+      → each m.from_tree ts ≡ None
+  no_list_follows {f} {s} g n ts r p =
+      let a = g.back ts r p in
+      let b = elements_follow a.0 f s r a.1 in absurd (n b.0 b.1 b.2)
+
+  -- the element that is next means a value
+  pub next_goes : {s d : List ℕ} {items : List V} {v : V} → ListNext m begin false s items → ReadsDue m.from_tree s d (m.content v)
+      → ListGoes m begin false d (items ++ v ∷ [])
+  next_goes {s} g p = list_goes g.goes (s, g.follows, p)
+
+  -- the element that is next means no value
+  pub next_none : {s : List ℕ} {items : List V} → ListNext m begin false s items → RejectsDue m.from_tree s
+      → (ts : Trees) (r : List ℕ) → ElementsAt ts true begin r → each m.from_tree ts ≡ None
+  next_none {s} {items} g n ts r p =
+      let a = g.goes.back ts r p in
+      let b = element_rejects m.from_tree g.first g.before s g.follows n a.0 r a.1 in
+      a.2 ∙ ap (with m items) b.2 ∙ none_more m items b.0 b.1 b.3

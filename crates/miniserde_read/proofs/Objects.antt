@@ -4,7 +4,7 @@
 use Rattle.std.proofs.Common.{◌≡◌, ℕ, ◌<◌, Bool, true, false, List, length, Option, Some, None, refl, ap, subst, ◌∙◌, arith}
 use Rattle.miniserde_model.specs.Tree.{Tree, members, Members, no_members, member}
 use Rattle.miniserde_model.specs.Step.{map}
-use Rattle.miniserde_model.specs.Lexing.{Names}
+use Rattle.miniserde_model.specs.Lexing.{Names, Follows}
 use Rattle.miniserde_model.specs.declared.kind.Kind.TheVariants.{Map}
 use Rattle.miniserde_text.specs.Lexer.{event_of_token, text_of}
 use Rattle.miniserde_text.specs.declared.json.lex.Event.{Event}
@@ -17,7 +17,7 @@ use Rattle.miniserde_read.specs.types.Objects.{Name, after_members}
 use Rattle.miniserde_read.proofs.Due.{due_less, due_front}
 use Rattle.miniserde_read.proofs.Length.{follows_least, stands_least}
 use Rattle.miniserde_read.proofs.Same.{value_same, tag, first_event, value_event}
-use Rattle.miniserde_read.proofs.Steps.{members_there, members_close}
+use Rattle.miniserde_read.proofs.Steps.{members_follow, members_name, members_there, members_close}
 
 -- The object began with the text `begin` behind its brace. What is left, s, goes on as some members exactly where the
 -- whole goes on from the beginning, and from m they give what the whole gives from `empty`.
@@ -27,6 +27,15 @@ pub record ObjectGoes {S : Type 0} (next : S → Name → Tree → Option S) (em
       × (after_members next empty ms ≡ after_members next m us)
   pub back : (ms : Members) (r : List ℕ) → MembersAt ms true begin r → (us : Members) × MembersAt us first s r
       × (after_members next empty ms ≡ after_members next m us)
+
+-- The object began with the text `begin` behind its brace, and gave the state m. Then its closing brace was taken, if
+-- `close` is true, or what stands before its next member; s is left.
+pub record ObjectNext {S : Type 0} (next : S → Name → Tree → Option S) (empty : S) (begin : List ℕ) (close : Bool)
+    (s : List ℕ) (m : S) : Type 0 where
+  pub first : Bool
+  pub before : List ℕ
+  pub goes : ObjectGoes next empty begin first before m
+  pub follows : Follows Map first close before s
 
 module _ {S : Type 0} (next : S → Name → Tree → Option S) where
   pub object_begins : (empty : S) (begin : List ℕ) → ObjectGoes next empty begin true begin empty
@@ -100,6 +109,16 @@ module _ {S : Type 0} {next : S → Name → Tree → Option S} {empty : S} {beg
   pub no_object_follows : ((us : Members) (r : List ℕ) → MembersAt us f s r → ⊥) → (ms : Members) (r : List ℕ)
       → MembersAt ms true begin r → ⊥
   no_object_follows n ms r p = let a = g.back ms r p in n a.0 r a.1
+
+  -- neither the closing brace nor a member is next
+  pub no_member_follows : ((a : Bool) (b : List ℕ) → Follows Map f a s b → ⊥) → (ms : Members) (r : List ℕ)
+      → MembersAt ms true begin r → ⊥
+  no_member_follows n = no_object_follows (λ us r p. let q = members_follow us f s r p in n q.0 q.1 q.2)
+
+  -- a member is next, but no name
+  pub no_name_follows : (b : List ℕ) → Follows Map f false s b → ((n c : List ℕ) → Names b n c → ⊥) → (ms : Members) (r : List ℕ)
+      → MembersAt ms true begin r → ⊥
+  no_name_follows b h n = no_object_follows (λ us r p. let q = members_name us f s b r h p in n q.0 q.1 q.2)
 
   -- the object ends
   pub object_ends : (x b : List ℕ) {o : Option Text} → NameFollows o x f s b → o ≡ None

@@ -9,10 +9,11 @@ ghost use Rattle.miniserde_read.specs.Events.{EventInRange};
 ghost use Rattle.miniserde_read.specs.types.Maps.{key_meaning, map_content, with_entry};
 
 use super::FromJson;
+use crate::children::read_due;
 use crate::source::Source;
 use miniserde_keys::MapKey;
 use miniserde_model::error::{Error, Result};
-use miniserde_text::json::lex::Event;
+use miniserde_text::json::lex::{After, Event, Kind};
 use std::alloc::Global;
 use std::collections::{BTreeMap, HashMap};
 use std::hash::{BuildHasher, Hash};
@@ -101,13 +102,13 @@ fn read_table<'a, V: FromJson, M: Table<Value = V>>(
         return Err(Error::Invalid);
     };
     let mut table = M::new(source.alloc());
-    let mut first = true;
-    while let Some(name) = source.member(first)? {
+    let mut next = source.after(Kind::Map, true)?;
+    while let After::Next = next {
+        let name = source.name()?;
         let key = <M::Key as MapKey>::from_key(source.alloc(), source.text(name))?;
-        let token = source.token()?;
-        let value = V::read(token, source)?;
+        let value = read_due(source)?;
         table.put(key, value)?;
-        first = false;
+        next = source.after(Kind::Map, false)?;
     }
     Ok(table)
 }

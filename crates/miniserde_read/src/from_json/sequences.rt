@@ -2,10 +2,10 @@
 ghost use Rattle.miniserde_read.specs.Meanings.{list_meaning};
 
 use super::FromJson;
-use crate::children::next_element;
+use crate::children::read_due;
 use crate::source::Source;
 use miniserde_model::error::{Error, Result};
-use miniserde_text::json::lex::Event;
+use miniserde_text::json::lex::{After, Event, Kind};
 use std::collections::VecDeque;
 
 impl<T: FromJson> FromJson for Vec<T> {
@@ -20,10 +20,10 @@ impl<T: FromJson> FromJson for Vec<T> {
             return Err(Error::Invalid);
         };
         let mut items = Vec::new(source.alloc());
-        let mut first = true;
-        while let Some(item) = next_element(source, first)? {
-            items.push(item)?;
-            first = false;
+        let mut next = source.after(Kind::Seq, true)?;
+        while let After::Next = next {
+            items.push(read_due(source)?)?;
+            next = source.after(Kind::Seq, false)?;
         }
         Ok(items)
     }
