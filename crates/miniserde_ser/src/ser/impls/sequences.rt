@@ -1,11 +1,11 @@
 //! Writes slices, arrays, `Vec` and `VecDeque`, as lists.
 ghost use Rattle.std.specs.Prelude.{◌≡◌, ◌++◌, false, true, OnOk, OnErr, IsErrOf};
 ghost use Rattle.miniserde_model.specs.Tree.{list};
-ghost use Rattle.miniserde_model.specs.Compact.{compact, compact_children};
-ghost use Rattle.miniserde_model.specs.InRange.{InRange, AllInRange};
+ghost use Rattle.miniserde_model.specs.Compact.{compact_children};
+ghost use Rattle.miniserde_model.specs.InRange.{AllInRange};
 ghost use Rattle.miniserde_model.specs.declared.error.Error.TheVariants.{Memory};
 ghost use Rattle.miniserde_ser.specs.Trees.{trees_of};
-ghost use Rattle.miniserde_ser.specs.Writer.{KeepsNormal};
+ghost use Rattle.miniserde_ser.specs.Writer.{KeepsNormal, WritesTree};
 
 use crate::ser::{Serialize, Writer};
 use miniserde_model::error::Result;
@@ -36,14 +36,7 @@ fn write_each<T: Serialize>(items: &[T], w: &mut Writer) -> Result<()>
 // Writes a list of the items. Returns `Memory` if an allocation fails or an earlier call of the
 // writer failed.
 fn write_items<T: Serialize>(items: &[T], w: &mut Writer) -> Result<()>
-    ensures ok { OnOk result (w.new.text ≡ w.old.text ++ compact (list (trees_of T.tree items.now))) }
-    ensures in_range { OnOk result (InRange (list (trees_of T.tree items.now))) }
-    ensures normal { OnOk result (KeepsNormal w.old (list (trees_of T.tree items.now)) w.new) }
-    ensures first { OnOk result (w.new.first ≡ false) }
-    ensures unrefused { OnOk result (w.new.refused ≡ false) }
-    ensures was_running { OnOk result (w.old.refused ≡ false) }
-    ensures memory { OnErr result (IsErrOf result Memory) }
-    ensures err { OnErr result (w.new.refused ≡ true) }
+    ensures { WritesTree w.old (list (trees_of T.tree items.now)) result w.new }
 {
     w.seq()?;
     write_each(items, w)?;
