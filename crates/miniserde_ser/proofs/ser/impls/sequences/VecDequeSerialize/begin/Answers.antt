@@ -33,7 +33,8 @@ pub returns-clause-normal : goal.returns-clause-normal
 returns-clause-normal g c =
     let f = g.T.Serialize.tree in
     on_ok_weaker c.seq_finish-2.result
-    (λ (e : c.seq_finish-2.new.self ≡ with_first_flag (after_append c.write_each-2.new.w (93 ∷ []) c.seq_finish-2.new.self.capacity) false) n.
+    (λ (e : c.seq_finish-2.new.self
+    ≡ with_first_flag (after_append c.write_each-2.new.w (93 ∷ []) c.seq_finish-2.new.self.capacity) false) n.
     let back = c.in_ok-write_each-2.ensures.normal (sym (ap (λ s. s.normal) e) ∙ n) in
     let front = c.in_ok-write_each.ensures.normal (sym (ap (λ s. s.normal) c.in_ok-append_mark.ensures.ok) ∙ back.0) in (
       sym (ap (λ s. s.normal) c.in_ok-seq.ensures.ok) ∙ front.0,
