@@ -18,6 +18,7 @@ fn write_each<T: Serialize>(items: &[T], w: &mut Writer) -> Result<()>
     ensures ok { OnOk result (w.new.text ≡ w.old.text ++ compact_children (trees_of T.tree items.now)) }
     ensures in_range { OnOk result (AllInRange (trees_of T.tree items.now)) }
     ensures normal { OnOk result (KeepsNormal w.old (list (trees_of T.tree items.now)) w.new) }
+    ensures first { OnOk result (w.old.first ≡ false → w.new.first ≡ false) }
     ensures unrefused { OnOk result (w.new.refused ≡ false) }
     ensures memory { OnErr result (IsErrOf result Memory) }
     ensures err { OnErr result (w.new.refused ≡ true) }
@@ -45,9 +46,10 @@ fn write_items<T: Serialize>(items: &[T], w: &mut Writer) -> Result<()>
     ensures memory { OnErr result (IsErrOf result Memory) }
     ensures err { OnErr result (w.new.refused ≡ true) }
 {
-    w.seq()?;
+    // No call of `seq`, since no item asks whether it is the first.
+    w.punctuate('[', false)?;
     write_each(items, w)?;
-    w.seq_finish()
+    w.append_mark(']')
 }
 
 impl<T: Serialize> Serialize for &[T] {
