@@ -81,14 +81,14 @@ impl<T: Serialize> Serialize for VecDeque<T> {
 
     fn begin(&self, w: &mut Writer) -> Result<()> {
         let (front, back) = self.as_slices();
-        w.seq()?;
+        w.punctuate('[', false)?;
         write_each(front, w)?;
         if back.is_empty() {
-            return w.seq_finish();
+            return w.append_mark(']');
         }
         // An item stands before those of `back`.
         w.append_mark(',')?;
         write_each(back, w)?;
-        w.seq_finish()
+        w.append_mark(']')
     }
 }
