@@ -1,10 +1,8 @@
 -- Moves compose, and if the rest of a text bars every value, the whole text does. Each lemma appends the events of
 -- two moves, or carries a bar back over the events of a move.
-use Rattle.std.proofs.Common.{ℕ, List, [], ◌∷◌, ◌++◌, refl, sym, ap, subst, ◌∙◌, append_assoc}
+use Rattle.std.proofs.Common.{List, [], ◌∷◌, ◌++◌, refl, sym, ap, subst, ◌∙◌, append_assoc}
 use Rattle.miniserde_model.specs.Step.{Step}
 use Rattle.miniserde_model.specs.Position.{Completes}
-use Rattle.miniserde_model.specs.declared.kind.Kind.{Kind}
-use Rattle.miniserde_model.specs.private.Reading.{Moment}
 use Rattle.miniserde_text.specs.private.Moments.{MomentFits}
 use Rattle.miniserde_text.specs.private.EventRuns.{TextAt, Consumes, NeverRuns}
 use Rattle.miniserde_text.proofs.Consumes.{Consumes-none, Consumes-append}

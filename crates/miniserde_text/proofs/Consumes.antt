@@ -92,10 +92,10 @@ named {b = b} {n = n} {m = m} {c = c} {d = d} e p q = same_name b m n d c (subst
 key_back : (f : Bool) {st : List Kind} (s : List ℕ) {b n c : List ℕ} → Follows Map f false s b → Names b n c
     → (es : List Step) (r : List ℕ) → Runs (first_or_after f) es (Map ∷ st) s r → (rest : List Step)
     × (es ≡ key n ∷ rest) × Runs due rest (Map ∷ st) c r
-key_back true {st = st} s {b = b} {n = n} p q (key m ∷ es) r h =
+key_back true {st = st} s {b = b} p q (key m ∷ es) r h =
     let same = named (next_same Map true s h.0 b h.2 p) q h.3 in
     (es, ap (λ z. key z ∷ es) same.0, subst (λ z. Runs due es (Map ∷ st) z r) same.1 h.4)
-key_back false {st = st} s {b = b} {n = n} p q (key m ∷ es) r h =
+key_back false {st = st} s {b = b} p q (key m ∷ es) r h =
     let same = named (next_same Map false s h.0 b h.2 p) q h.3 in
     (es, ap (λ z. key z ∷ es) same.0, subst (λ z. Runs due es (Map ∷ st) z r) same.1 h.4)
 key_back true s {b = b} p q (finish ∷ es) r h = absurd (close_no_next Map true s h.0 b h.1 p)
