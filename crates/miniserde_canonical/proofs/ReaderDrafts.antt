@@ -22,6 +22,7 @@ use Rattle.miniserde_text.proofs.NextChild.{begins_stops}
 use Rattle.miniserde_canonical.proofs.Plains.{at_once}
 use Rattle.miniserde_model.specs.private.Reading.{Moment, due, after}
 use Rattle.miniserde_text.specs.private.Stack.{innermost}
+use Rattle.miniserde_text.specs.private.EventRuns.{TextAt, text_at}
 use Rattle.miniserde_text.specs.private.Moments.{opened_kind, first_or_after}
 use Rattle.miniserde_model.specs.Tokens.{Token, leaf, name, array, array_end, object, object_end, tokens, comma_before}
 use Rattle.miniserde_model.specs.Tokens as token
@@ -163,35 +164,34 @@ takes_object_end {rest' = rest'} m d' k e f = λ s r h.
 
 -- ---- all tokens so far
 
--- tokens of j up to `rest` were read, up to the moment m inside st, and the draft d took them from `initial_state` on
-pub record Taken (j : List ℕ) (m : Moment) (st : List Kind) (rest : List ℕ) (d : Draft) : Type 0 where
+-- the tokens of j up to `now` were read, and the draft d took them from `initial_state` on
+pub record Taken (j : List ℕ) (now : TextAt) (d : Draft) : Type 0 where
   pub tokens : List Token
   pub state : State
-  pub reads : ReadsTokens due [] j tokens m st rest
+  pub reads : ReadsTokens (text_at due [] j) tokens now
   pub steps : TokenSteps tokens initial_state state
-  pub represents : Represents d rest state
-  pub recalls : Recalls m state
+  pub represents : Represents d now.rest state
+  pub recalls : Recalls now.moment state
 
 -- if ks are read from the beginning of j, and a draft that represents `initial_state` takes them, `Taken` holds
-pub taken_first : {j s rest : List ℕ} {st su : List Kind} {ks : List Token} {m : Moment} {d d' : Draft}
-    → su ≡ [] → s ≡ j → Represents d j initial_state → ReadsTokens due su s ks m st rest
-    → DraftTakes (draft_at due j d) ks (draft_at m rest d') → Taken j m st rest d'
-taken_first {j = j} {rest = rest} {st = st} {su = su} {ks = ks} {m = m} e f r p t =
+pub taken_first : {j s : List ℕ} {st : List Kind} {ks : List Token} {new : TextAt} {d d' : Draft}
+    → st ≡ [] → s ≡ j → Represents d j initial_state → ReadsTokens (text_at due st s) ks new
+    → DraftTakes (draft_at due j d) ks (draft_at new.moment new.rest d') → Taken j new d'
+taken_first {j = j} {st = st} {ks = ks} {new = new} e f r p t =
     let a = t initial_state r tt in
     record {
       tokens = ks;
       state = a.0;
       reads =
-          subst (λ z. ReadsTokens due z j ks m st rest) e (subst (λ z. ReadsTokens due su z ks m st rest) f p);
+          subst (λ z. ReadsTokens (text_at due z j) ks new) e (subst (λ z. ReadsTokens (text_at due st z) ks new) f p);
       steps = a.1;
       represents = a.2;
       recalls = a.3;
     }
 
 -- if `Taken` holds, and then more tokens are read and taken, `Taken` holds after them
-pub taken_more : {j rest rest' : List ℕ} {m m' : Moment} {st st' : List Kind} {ks : List Token} {d d' : Draft}
-    → Taken j m st rest d → ReadsTokens m st rest ks m' st' rest'
-    → DraftTakes (draft_at m rest d) ks (draft_at m' rest' d') → Taken j m' st' rest' d'
+pub taken_more : {j : List ℕ} {old new : TextAt} {ks : List Token} {d d' : Draft} → Taken j old d → ReadsTokens old ks new
+    → DraftTakes (draft_at old.moment old.rest d) ks (draft_at new.moment new.rest d') → Taken j new d'
 taken_more {ks = ks} t p f =
     let a = f t.state t.represents t.recalls in
     record {
@@ -207,7 +207,7 @@ taken_more {ks = ks} t p f =
 
 -- if no container is open and only whitespace is left, the tokens taken are those of a tree that j spells
 pub taken_all : {j rest : List ℕ} {st : List Kind} {d : Draft} (f : Bool) → innermost st ≡ None
-    → IsWhitespace rest → Taken j (first_or_after f) st rest d → (t : Tree) × (s : State) × IsJson j t
+    → IsWhitespace rest → Taken j (text_at (first_or_after f) st rest) d → (t : Tree) × (s : State) × IsJson j t
     × TokenSteps (tokens t []) initial_state s × Represents d rest s
 taken_all {st = st} f e w k =
     let t = end_ok f st e k.reads w in

@@ -14,7 +14,7 @@ use Rattle.miniserde_text.specs.declared.json.lex.Event as lexed
 use Rattle.miniserde_read.specs.Rest.{ValueAt}
 use Rattle.miniserde_text.specs.private.Stack.{with_opened, innermost}
 use Rattle.miniserde_text.specs.private.Moments.{opened_kind, first_or_after}
-use Rattle.miniserde_text.specs.private.EventRuns.{Runs, Reaches, NeverRuns}
+use Rattle.miniserde_text.specs.private.EventRuns.{Runs, text_at, behind_first, Reaches, NeverRuns}
 use Rattle.miniserde_text.proofs.Consumes.{Consumes-none, live_opened, value_passed}
 use Rattle.miniserde_read.proofs.Values.{value_later, whole_at}
 
@@ -23,29 +23,21 @@ use Rattle.miniserde_read.proofs.Values.{value_later, whole_at}
 pub entered : (result : Result Bool Error) (st : List Kind) {s r : List ℕ} (e : Step) (st' : List Kind)
     → Starts s e r → IfOk result (λ b. b ≡ is_some (opened_kind e))
     → IfOk result (λ _. st' ≡ with_opened (opened_kind e) st)
-    → IfOk result (λ b. Reaches due st s (first_or_after b) st' r)
-entered (Ok b) st {s = s} {r = r} e st' p q h = record { done = e ∷ []; passed = value_passed st s r e b st' p q h }
+    → IfOk result (λ b. Reaches (text_at due st s) (text_at (first_or_after b) st' r))
+entered (Ok b) st e st' p q h = record { done = e ∷ []; passed = value_passed e b p q h }
 entered (Err x) st e st' p q h = tt
 
 -- before the first turn
-pub reaches_init : (e : Step) (f : Bool) (st : List Kind) (s : List ℕ) → f ≡ is_some (opened_kind e)
-    → st ≡ with_opened (opened_kind e) []
-    → Reaches (first_or_after (is_some (opened_kind e))) (with_opened (opened_kind e) []) s (first_or_after f) st s
-reaches_init e f st s p q =
-    subst (λ z. Reaches (first_or_after (is_some (opened_kind e))) (with_opened (opened_kind e) []) s (first_or_after z) st s) (sym p)
-    (subst (λ z. Reaches (first_or_after (is_some (opened_kind e))) (with_opened (opened_kind e) []) s
-    (first_or_after (is_some (opened_kind e))) z s) (sym q)
-    (record {
-      done = [];
-      passed =
-          Consumes-none (first_or_after (is_some (opened_kind e))) (with_opened (opened_kind e) []) s
-          (live_opened e);
-    }))
+pub reaches_init : (e : Step) {f : Bool} {st : List Kind} {s : List ℕ} → f ≡ is_some (opened_kind e)
+    → st ≡ with_opened (opened_kind e) [] → Reaches (behind_first e s) (text_at (first_or_after f) st s)
+reaches_init e {st = st} {s = s} p q =
+    subst (λ z. Reaches (behind_first e s) (text_at (first_or_after z) st s)) (sym p)
+    (subst (λ z. Reaches (behind_first e s) (text_at (first_or_after (is_some (opened_kind e))) z s)) (sym q)
+    (record { done = []; passed = Consumes-none (live_opened e) }))
 
 -- where no container is left open
 pub skip_ok : (x : lexed.Event) (scratch : List ℕ) {s s' : List ℕ} (f : Bool) (st' : List Kind) → innermost st' ≡ None
-    → Reaches (first_or_after (is_some (opened_kind (event_of_token x scratch))))
-    (with_opened (opened_kind (event_of_token x scratch)) []) s (first_or_after f) st' s'
+    → Reaches (behind_first (event_of_token x scratch) s) (text_at (first_or_after f) st' s')
     → (t : Tree) × ValueAt t (event_of_token x scratch) s s'
 skip_ok x scratch true [] h p = absurd p.passed.live
 skip_ok x scratch {s = s} {s' = s'} false [] h p =
@@ -58,7 +50,5 @@ skip_ok x scratch {s = s} {s' = s'} false [] h p =
 skip_ok x scratch f (c ∷ st) h p = absurd (true≢false (ap is_some h))
 
 -- where the text cannot go on
-pub skip_none : (e : Step) (s : List ℕ)
-    → NeverRuns (first_or_after (is_some (opened_kind e))) (with_opened (opened_kind e) []) s
-    → (t : Tree) (r : List ℕ) → ValueAt t e s r → ⊥
+pub skip_none : (e : Step) (s : List ℕ) → NeverRuns (behind_first e s) → (t : Tree) (r : List ℕ) → ValueAt t e s r → ⊥
 skip_none e s n t r v = let l = value_later t e s r v in n l.later r l.runs

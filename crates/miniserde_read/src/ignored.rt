@@ -8,7 +8,7 @@ ghost use Rattle.miniserde_read.specs.Meanings.{ignored_meaning};
 ghost use Rattle.miniserde_read.specs.Rest.{ValueAt};
 ghost use Rattle.miniserde_read.specs.Due.{ReadsDue, RejectsDue};
 ghost use Rattle.miniserde_text.specs.private.Moments.{first_or_after};
-ghost use Rattle.miniserde_text.specs.private.EventRuns.{Reaches, NeverRuns};
+ghost use Rattle.miniserde_text.specs.private.EventRuns.{text_at, Reaches, NeverRuns};
 ghost use Rattle.miniserde_text.specs.private.Stack.{innermost};
 
 use crate::from_json::FromJson;
@@ -82,8 +82,9 @@ fn take_child_or_end<'a>(
     ensures going { IfOk result (λ _. source.new.refused ≡ None) }
     ensures less { IfOk result (λ _. length source.new.rest < length source.old.rest) }
     ensures reaches { IfOk result (λ opened.
-        Reaches (first_or_after first) stack.old source.old.rest (first_or_after opened) stack.new source.new.rest) }
-    ensures invalid { result ≡ Err Error.Invalid → NeverRuns (first_or_after first) stack.old source.old.rest }
+        Reaches (text_at (first_or_after first) stack.old source.old.rest)
+        (text_at (first_or_after opened) stack.new source.new.rest)) }
+    ensures invalid { result ≡ Err Error.Invalid → NeverRuns (text_at (first_or_after first) stack.old source.old.rest) }
 {
     match source.after(kind, first)? {
         After::Close => {
@@ -109,8 +110,8 @@ fn begin<'a>(source: &mut Source<'a>, stack: &mut Stack) -> Result<bool>
     ensures going { IfOk result (λ _. source.new.refused ≡ None) }
     ensures less { IfOk result (λ _. length source.new.rest < length source.old.rest) }
     ensures reaches { IfOk result (λ opened.
-        Reaches due stack.old source.old.rest (first_or_after opened) stack.new source.new.rest) }
-    ensures invalid { result ≡ Err Error.Invalid → NeverRuns due stack.old source.old.rest }
+        Reaches (text_at due stack.old source.old.rest) (text_at (first_or_after opened) stack.new source.new.rest)) }
+    ensures invalid { result ≡ Err Error.Invalid → NeverRuns (text_at due stack.old source.old.rest) }
 {
     let token = source.token_checked()?;
     stack.enter(token)

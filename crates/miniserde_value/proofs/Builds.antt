@@ -17,7 +17,7 @@ use Rattle.miniserde_text.specs.declared.json.lex.Event.TheVariants as variant
 use Rattle.miniserde_text.specs.private.Stack.{with_opened, outer, innermost}
 use Rattle.miniserde_text.specs.private.Moments.{opened_kind, first_or_after, MomentFits}
 use Rattle.miniserde_read.specs.Rest.{ValueAt}
-use Rattle.miniserde_text.specs.private.EventRuns.{Runs, Consumes, NeverRuns}
+use Rattle.miniserde_text.specs.private.EventRuns.{Runs, text_at, Consumes, NeverRuns}
 use Rattle.miniserde_text.proofs.Consumes.{Consumes-none, Consumes-append, close_passed, element_passed, key_passed}
 use Rattle.miniserde_text.proofs.Consumes.{value_passed, live_opened}
 use Rattle.miniserde_read.proofs.Values.{value_later, whole_at}
@@ -26,7 +26,7 @@ use Rattle.miniserde_value.specs.Hole.{complete_tree, after_begin, after_step, r
 use Rattle.miniserde_value.specs.Retained.{retained_tree, retained_if}
 use Rattle.miniserde_value.specs.Containers.{innermost_kind, pending, with_next_name}
 use Rattle.miniserde_value.specs.laws.Unique.{gives-retained}
-use Rattle.miniserde_value.specs.private.Builds.{ReaderState, state_before, state_due, outcome_at, Builds, HoleAdvancesBy}
+use Rattle.miniserde_value.specs.private.Builds.{ReaderState, state_before, state_due, outcome_at, Builds, HoleAdvancesBy, text_of_state}
 use Rattle.miniserde_value.specs.private.Builds.{NeverGives, kinds, is_due}
 
 -- ---- the open containers
@@ -132,7 +132,7 @@ pub close_builds : (once : Bool) (h : Hole) {s r : List ℕ} (k : Kind) (f : Boo
     → Follows k f true s r → Builds once (state_before f h s) (state_before false (after_close h) r)
 close_builds once h {s = s} {r = r} k f i p = record {
   done = finish ∷ [];
-  passed = close_passed (kinds h) (kinds (after_close h)) s r k f (innermost_of_kinds h ∙ i) p (kinds_closed h);
+  passed = close_passed k f (innermost_of_kinds h ∙ i) p (kinds_closed h);
   makes = close_makes false h s r k f i;
   repeats_none = close_makes once h s r k f i;
 }
@@ -153,7 +153,7 @@ pub element_builds : (once : Bool) (h : Hole) {s r : List ℕ} (k : Kind) (f : B
     → k ≡ kind.Seq → Follows k f false s r → Builds once (state_before f h s) (state_due h r)
 element_builds once h {s = s} {r = r} k f i q p = record {
   done = element ∷ [];
-  passed = element_passed (kinds h) s r k f (innermost_of_kinds h ∙ i) q p;
+  passed = element_passed k f (innermost_of_kinds h ∙ i) q p;
   makes = element_makes false h s r f i q;
   repeats_none = element_makes once h s r f i q;
 }
@@ -191,9 +191,9 @@ kinds_next None h = refl
 kinds_next (Some n) h = kinds_named h n
 
 key_done : {h : Hole} {f : Bool} {s n u : List ℕ} → MemberNext h f s n u
-    → Consumes (first_or_after f) (kinds h) s (key n ∷ []) due (kinds h) u
-key_done {h = h} {f = f} {s = s} {n = n} {u = u} p =
-    key_passed (kinds h) s p.names n u p.container f (innermost_of_kinds h ∙ p.inside) p.is_object p.follows p.is_name
+    → Consumes (text_at (first_or_after f) (kinds h) s) (key n ∷ []) (text_at due (kinds h) u)
+key_done {h = h} {f = f} p =
+    key_passed p.container f (innermost_of_kinds h ∙ p.inside) p.is_object p.follows p.is_name
 
 -- if a member is next in the innermost object, and `once` allows its name, the text builds the hole g with the name
 pub key_builds : (once : Bool) {h g : Hole} {f : Bool} {s n u : List ℕ} → MemberNext h f s n u
@@ -202,7 +202,8 @@ key_builds once {h = h} {f = f} {s = s} {n = n} {u = u} p l e =
     subst (λ z. Builds once (state_before f h s) (state_due z u)) (sym e)
     (record {
       done = key n ∷ [];
-      passed = subst (λ z. Consumes (first_or_after f) (kinds h) s (key n ∷ []) due z u) (sym (kinds_named h n)) (key_done p);
+      passed = subst (λ z. Consumes (text_at (first_or_after f) (kinds h) s) (key n ∷ []) (text_at due z u))
+          (sym (kinds_named h n)) (key_done p);
       makes = key_makes false p refl;
       repeats_none = key_makes once p l;
     })
@@ -229,7 +230,7 @@ pub start_builds : (once : Bool) (h g : Hole) {s r : List ℕ} (e : Step) {f : B
     → f ≡ is_some (opened_kind e) → after_begin e h ≡ Some g → Builds once (state_due h s) (state_before f g r)
 start_builds once h g {s = s} {r = r} e {f = f} p q b = record {
   done = e ∷ [];
-  passed = value_passed (kinds h) s r e f (kinds g) p q (kinds_begun e h g b);
+  passed = value_passed e f p q (kinds_begun e h g b);
   makes = λ es. start_makes false e h g b es ∙ ap (λ z. outcome false z g es) (sym (not_due f));
   repeats_none = λ es. start_makes once e h g b es ∙ ap (λ z. outcome once z g es) (sym (not_due f));
 }
@@ -240,8 +241,7 @@ start_builds once h g {s = s} {r = r} e {f = f} p q b = record {
 pub Builds-append : (once : Bool) {from mid to : ReaderState} → Builds once from mid → Builds once mid to → Builds once from to
 Builds-append once {from = from} {mid = mid} {to = to} p q = record {
   done = p.done ++ q.done;
-  passed = Consumes-append from.moment (kinds from.hole) from.rest p.done mid.moment (kinds mid.hole) mid.rest q.done
-      to.moment (kinds to.hole) to.rest p.passed q.passed;
+  passed = Consumes-append p.passed q.passed;
   makes = λ es. ap (outcome_at false from) (append_assoc p.done q.done es) ∙ p.makes (q.done ++ es) ∙ q.makes es;
   repeats_none = λ es. ap (outcome_at once from) (append_assoc p.done q.done es) ∙ p.repeats_none (q.done ++ es) ∙ q.repeats_none es;
 }
@@ -271,7 +271,7 @@ leaf_stays n e h g b f =
 -- ---- what can give no value
 
 -- if no prefix of the text closes all containers, no events give a tree
-pub stuck : (once : Bool) (now : ReaderState) → NeverRuns now.moment (kinds now.hole) now.rest → NeverGives once now
+pub stuck : (once : Bool) (now : ReaderState) → NeverRuns (text_of_state now) → NeverGives once now
 stuck once now n es r g = absurd (n es r g)
 
 -- if no events give a tree behind a step that builds a hole, none give one before it
@@ -306,8 +306,7 @@ builds_init once e h f s q b =
     subst (λ z. Builds once (state_before (is_some (opened_kind e)) h s) (state_before z h s)) (sym q)
     (record {
       done = [];
-      passed = Consumes-none (first_or_after (is_some (opened_kind e))) (kinds h) s
-          (subst (λ z. MomentFits (first_or_after (is_some (opened_kind e))) z)
+      passed = Consumes-none (subst (λ z. MomentFits (first_or_after (is_some (opened_kind e))) z)
           (sym (kinds_begun e (outside []) h b)) (live_opened e));
       makes = λ es. refl;
       repeats_none =

@@ -4,7 +4,7 @@ use Rattle.miniserde_model.specs.Step.{Step}
 use Rattle.miniserde_model.specs.Position.{Completes}
 use Rattle.miniserde_model.specs.declared.kind.Kind.{Kind}
 use Rattle.miniserde_model.specs.private.Reading.{Moment, Spells}
-use Rattle.miniserde_text.specs.private.EventRuns.{Runs, Consumes}
+use Rattle.miniserde_text.specs.private.EventRuns.{Runs, TextAt, text_at, Consumes}
 use Rattle.miniserde_text.specs.private.Stack.{with_opened}
 use Rattle.miniserde_text.specs.private.Moments.{opened_kind, first_or_after, due_or_after}
 use Rattle.miniserde_place.specs.Place.{PlaceView, AdvancesBy}
@@ -18,6 +18,10 @@ pub record EngineState (C : Type 0) : Type 0 where
   pub rest : List ℕ
   -- the view of the place
   pub view : PlaceView C
+
+-- the moment of the state, with its open containers and the rest of the text
+abbrev pub text_of_state : {C : Type 0} → EngineState C → TextAt
+text_of_state now = text_at now.moment now.kinds now.rest
 
 -- The engine in an open container, before a child or the closing bracket; `first` says that the opening bracket was
 -- just taken. st are the kinds of the open containers, s is the rest of the text and p the view of the place.
@@ -49,7 +53,7 @@ Spellable m es st = (b : List ℕ) × Spells m es st b
 -- the events up to `to` and then the further ones.
 pub record Moved {C : Type 0} (from to : EngineState C) : Type 0 where
   pub done : List Step
-  pub passed : Consumes from.moment from.kinds from.rest done to.moment to.kinds to.rest
+  pub passed : Consumes (text_of_state from) done (text_of_state to)
   pub advances : AdvancesBy from.view done to.view
   pub spellable : (es : List Step) → Spellable to.moment es to.kinds → Spellable from.moment (done ++ es) from.kinds
 

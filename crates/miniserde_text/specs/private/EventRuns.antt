@@ -24,22 +24,35 @@ Runs after (key n ∷ es) (Map ∷ st) s r = (b c : List ℕ) × Follows Map fal
 Runs after (finish ∷ es) (k ∷ st) s r = (b : List ℕ) × Follows k false true s b × Runs after es st b r
 Runs _ _ _ _ _ = ⊥
 
--- The text from s to s' spells the events `done`, and leads from the moment m inside the open
--- containers st to the moment m' inside st'. Any events that s spells until no container is open
--- begin with `done`. If st' is empty, m' is not the moment after an opening bracket.
-pub record Consumes (m : Moment) (st : List Kind) (s : List ℕ) (done : List Step) (m' : Moment) (st' : List Kind)
-    (s' : List ℕ) : Type 0 where
-  pub on : (es : List Step) (r : List ℕ) → Runs m' es st' s' r → Runs m (done ++ es) st s r
-  pub back : (es : List Step) (r : List ℕ) → Runs m es st s r → (rest : List Step) × (es ≡ done ++ rest) × Runs m' rest st' s' r
-  pub live : MomentFits m' st'
+-- a moment in a text: `stack` has the kinds of the open containers, innermost first, and `rest` is the text that is left
+pub record TextAt : Type 0 where
+  pub moment : Moment
+  pub stack : List Kind
+  pub rest : List ℕ
 
--- the text from s to s' spells some events, and leads from m inside st to m' inside st'
--- (`Consumes`)
-pub record Reaches (m : Moment) (st : List Kind) (s : List ℕ) (m' : Moment) (st' : List Kind) (s' : List ℕ) : Type 0 where
+-- the moment m inside the open containers st, with the text s left
+abbrev pub text_at : Moment → List Kind → List ℕ → TextAt
+text_at m st s = record { moment = m; stack = st; rest = s }
+
+-- the moment behind e, the first event of a value that stands in no container, with the text s left
+abbrev pub behind_first : Step → List ℕ → TextAt
+behind_first e s = text_at (first_or_after (is_some (opened_kind e))) (with_opened (opened_kind e) []) s
+
+-- The text between `old` and `new` spells the events `done`, and leads from the one to the other. Any events that the
+-- text at `old` spells until no container is open begin with `done`. If no container is open at `new`, its moment is not
+-- the one after an opening bracket.
+pub record Consumes (old : TextAt) (done : List Step) (new : TextAt) : Type 0 where
+  pub on : (es : List Step) (r : List ℕ) → Runs new.moment es new.stack new.rest r
+      → Runs old.moment (done ++ es) old.stack old.rest r
+  pub back : (es : List Step) (r : List ℕ) → Runs old.moment es old.stack old.rest r
+      → (rest : List Step) × (es ≡ done ++ rest) × Runs new.moment rest new.stack new.rest r
+  pub live : MomentFits new.moment new.stack
+
+-- the text between `old` and `new` spells some events, and leads from the one to the other (`Consumes`)
+pub record Reaches (old new : TextAt) : Type 0 where
   pub done : List Step
-  pub passed : Consumes m st s done m' st' s'
+  pub passed : Consumes old done new
 
--- from the moment m on, inside the open containers st, no prefix of the text s spells events after
--- which no container is open
-abbrev pub NeverRuns : Moment → List Kind → List ℕ → Type 0
-NeverRuns m st s = (es : List Step) (r : List ℕ) → Runs m es st s r → ⊥
+-- from `old` on, no prefix of the text that is left spells events after which no container is open
+abbrev pub NeverRuns : TextAt → Type 0
+NeverRuns old = (es : List Step) (r : List ℕ) → Runs old.moment es old.stack old.rest r → ⊥

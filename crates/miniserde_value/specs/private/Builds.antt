@@ -5,7 +5,7 @@ use Rattle.miniserde_model.specs.Step.{Step}
 use Rattle.miniserde_model.specs.declared.kind.Kind.{Kind}
 use Rattle.miniserde_model.specs.declared.kind.Kind.TheVariants.{Seq, Map}
 use Rattle.miniserde_model.specs.private.Reading.{Moment, due, first, after}
-use Rattle.miniserde_text.specs.private.EventRuns.{Runs, Consumes}
+use Rattle.miniserde_text.specs.private.EventRuns.{Runs, TextAt, text_at, Consumes}
 use Rattle.miniserde_text.specs.private.Moments.{first_or_after}
 use Rattle.miniserde_value.specs.Hole.{Hole, outside, in_list, in_members, after_close, outcome}
 
@@ -33,6 +33,10 @@ pub record ReaderState : Type 0 where
   -- the rest of the text
   pub rest : List ℕ
 
+-- the moment of the state, with the kinds of its open containers and the rest of the text
+abbrev pub text_of_state : ReaderState → TextAt
+text_of_state now = text_at now.moment (kinds now.hole) now.rest
+
 -- The reader in an open container, before a child or the closing bracket; `opened` says that the opening bracket was
 -- just taken. h is the hole and s the rest of the text.
 abbrev pub state_before : Bool → Hole → List ℕ → ReaderState
@@ -57,7 +61,7 @@ HoleAdvancesBy once from done to = (es : List Step) → outcome_at once from (do
 -- state to the other, if duplicate names are allowed (`makes`), and by `once` (`repeats_none`).
 pub record Builds (once : Bool) (from to : ReaderState) : Type 0 where
   pub done : List Step
-  pub passed : Consumes from.moment (kinds from.hole) from.rest done to.moment (kinds to.hole) to.rest
+  pub passed : Consumes (text_of_state from) done (text_of_state to)
   pub makes : HoleAdvancesBy false from done to
   pub repeats_none : HoleAdvancesBy once from done to
 

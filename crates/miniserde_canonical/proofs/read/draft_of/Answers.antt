@@ -4,6 +4,7 @@ use Rattle.std.proofs.Common.{◌≡◌, None, length, sym, ap, subst, ◌∙◌
 use Rattle.std.proofs.lemmas.Result.{err_from_is_err_and}
 use Rattle.miniserde_model.specs.private.Reading.{due}
 use Rattle.miniserde_text.specs.private.Stack.{innermost}
+use Rattle.miniserde_text.specs.private.EventRuns.{text_at}
 use Rattle.miniserde_text.specs.private.Moments.{first_or_after, due_or_after}
 use Rattle.miniserde_canonical.specs.private.EventTokens.{ReadsTokens}
 use Rattle.miniserde_canonical.specs.private.Drafts.{draft_at, DraftTakes, Holding}
@@ -30,8 +31,8 @@ loop-kind-preserved-then-branch c =
     let a = c.in_ok-take_child_or_end.ensures.reads in
     let b = c.in_ok-first-2.ensures.reads in
     let l = c.loop-kind.reader in
-    let reads = subst (λ z. ReadsTokens (first_or_after c.loop-kind.first) l.stack l.lexer.rest a.0 (due_or_after z)
-    c.take_child_or_end.new.self.stack c.take_child_or_end.new.self.lexer.rest) c.if-branch.true a.1 in
+    let reads = subst (λ z. ReadsTokens (text_at (first_or_after c.loop-kind.first) l.stack l.lexer.rest) a.0
+    (text_at (due_or_after z) c.take_child_or_end.new.self.stack c.take_child_or_end.new.self.lexer.rest)) c.if-branch.true a.1 in
     let takes = subst (λ z. DraftTakes (draft_at (first_or_after c.loop-kind.first) l.lexer.rest l.draft) a.0
     (draft_at (due_or_after z) c.take_child_or_end.new.self.lexer.rest c.take_child_or_end.new.self.draft))
     c.if-branch.true a.2 in
@@ -42,8 +43,8 @@ pub loop-kind-preserved : goal.loop-kind-preserved
 loop-kind-preserved c =
     let a = c.in_ok-take_child_or_end.ensures.reads in
     let l = c.loop-kind.reader in
-    let reads = subst (λ z. ReadsTokens (first_or_after c.loop-kind.first) l.stack l.lexer.rest a.0 (due_or_after z)
-    c.take_child_or_end.new.self.stack c.take_child_or_end.new.self.lexer.rest) c.if-branch.false a.1 in
+    let reads = subst (λ z. ReadsTokens (text_at (first_or_after c.loop-kind.first) l.stack l.lexer.rest) a.0
+    (text_at (due_or_after z) c.take_child_or_end.new.self.stack c.take_child_or_end.new.self.lexer.rest)) c.if-branch.false a.1 in
     let takes = subst (λ z. DraftTakes (draft_at (first_or_after c.loop-kind.first) l.lexer.rest l.draft) a.0
     (draft_at (due_or_after z) c.take_child_or_end.new.self.lexer.rest c.take_child_or_end.new.self.draft))
     c.if-branch.false a.2 in
@@ -57,7 +58,7 @@ pub returns-in_err-first-clause-invalid : goal.returns-in_err-first-clause-inval
 returns-in_err-first-clause-invalid c = λ e.
     let w = err_from_is_err_and c.from_residual.result c.from_residual.ensures.1 in
     rejects_json c.args.j.now
-    (rejects_from _ _ _ _ c.new-3.ensures (ap (λ l. l.rest) c.new.ensures)
+    (rejects_from c.new-3.ensures (ap (λ l. l.rest) c.new.ensures)
     (c.in_err-first.ensures.invalid (cc (w.1, w.2, e))))
 
 pub returns-in_err-take_child_or_end-clause-invalid : goal.returns-in_err-take_child_or_end-clause-invalid
@@ -70,8 +71,8 @@ returns-in_err-first-2-clause-invalid c = λ e.
     let w = err_from_is_err_and c.from_residual-in_err-first-2.result c.from_residual-in_err-first-2.ensures.1 in
     let a = c.in_ok-take_child_or_end.ensures.reads in
     let l = c.loop-kind.reader in
-    let reads = subst (λ z. ReadsTokens (first_or_after c.loop-kind.first) l.stack l.lexer.rest a.0 (due_or_after z)
-    c.take_child_or_end.new.self.stack c.take_child_or_end.new.self.lexer.rest) c.if-branch.true a.1 in
+    let reads = subst (λ z. ReadsTokens (text_at (first_or_after c.loop-kind.first) l.stack l.lexer.rest) a.0
+    (text_at (due_or_after z) c.take_child_or_end.new.self.stack c.take_child_or_end.new.self.lexer.rest)) c.if-branch.true a.1 in
     let takes = subst (λ z. DraftTakes (draft_at (first_or_after c.loop-kind.first) l.lexer.rest l.draft) a.0
     (draft_at (due_or_after z) c.take_child_or_end.new.self.lexer.rest c.take_child_or_end.new.self.draft))
     c.if-branch.true a.2 in

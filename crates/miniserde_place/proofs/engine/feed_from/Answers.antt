@@ -65,7 +65,7 @@ returns-in_err-token-clause-invalid g c = λ e t r p.
     later_rejects c.requires.fresh fed
     (never_rejects
     (after_move true c.take_child_or_end.new.stack c.take_child_or_end.new.source.rest (v c.take_child_or_end.new.place))
-    (start_ends c.take_child_or_end.new.stack c.take_child_or_end.new.source.rest
+    (start_ends c.take_child_or_end.new.stack
     (c.in_err-token.ensures.invalid (cc (w.1, w.2, e)) c.in_ok-take_child_or_end.ensures.going))) t r p
 
 pub enter-requires-then-branch-clause-event : goal.enter-requires-then-branch-clause-event
@@ -91,8 +91,7 @@ returns-in_err-first-2-clause-invalid g c = λ e t r p.
     later_rejects c.requires.fresh fed
     (rejects_one
     (after_move true c.take_child_or_end.new.stack c.take_child_or_end.new.source.rest (v c.take_child_or_end.new.place)) ew
-    (value_passed c.take_child_or_end.new.stack c.take_child_or_end.new.source.rest c.token.new.self.rest ew _ _
-    c.in_ok-token.ensures.ok refl refl) (c.in_err-first-2.ensures.rejects (cc (w.1, w.2, e)))) t r p
+    (value_passed ew _ c.in_ok-token.ensures.ok refl refl) (c.in_err-first-2.ensures.rejects (cc (w.1, w.2, e)))) t r p
 
 pub loop-kind-preserved-then-branch : goal.loop-kind-preserved-then-branch
 loop-kind-preserved-then-branch g c =
@@ -107,9 +106,7 @@ loop-kind-preserved-then-branch g c =
     let one = moved_one
     (after_move true c.take_child_or_end.new.stack c.take_child_or_end.new.source.rest (v c.take_child_or_end.new.place))
     (state_before c.in_ok-first-2.first c.enter-then-branch.new.stack c.token.new.self.rest (v c.enter-then-branch.new.place)) ew
-    (value_passed c.take_child_or_end.new.stack c.take_child_or_end.new.source.rest c.token.new.self.rest ew
-    c.in_ok-first-2.first c.enter-then-branch.new.stack c.in_ok-token.ensures.ok c.in_ok-first-2.ensures.opens
-    c.in_ok-first-2.ensures.stack)
+    (value_passed ew c.in_ok-first-2.first c.in_ok-token.ensures.ok c.in_ok-first-2.ensures.opens c.in_ok-first-2.ensures.stack)
     (start_spellable c.take_child_or_end.new.stack ew c.in_ok-token.ensures.ok c.in_ok-first-2.ensures.opens
     c.in_ok-first-2.ensures.stack) led in
     record {

@@ -16,7 +16,7 @@ pub returns-in_err-after-clause-invalid : goal.returns-in_err-after-clause-inval
 returns-in_err-after-clause-invalid g c = λ e.
     let w = err_from_is_err_and c.from_residual.result c.from_residual.ensures.1 in
     never_rejects (state_before c.args.first c.args.stack.now c.args.source.now.rest (g.V.Visitor.meaning.view c.args.place.now))
-    (after_ends _ _ c.args.kind c.args.first c.requires.inside
+    (after_ends _ c.args.kind c.args.first c.requires.inside
     (c.in_err-after.ensures.invalid (cc (w.1, w.2, e)) c.requires.going))
 
 pub returns-in_err-step-in-Close-clause-invalid : goal.returns-in_err-step-in-Close-clause-invalid
@@ -26,7 +26,7 @@ returns-in_err-step-in-Close-clause-invalid g c = λ e.
     subst (λ z. Follows c.args.kind c.args.first (is_close z) c.args.source.now.rest c.after.new.self.rest)
     c.in-Close.is c.in_ok-after.ensures.ok in
     rejects_one (state_before c.args.first c.args.stack.now c.args.source.now.rest (g.V.Visitor.meaning.view c.args.place.now)) finish
-    (close_passed _ _ _ _ c.args.kind c.args.first c.requires.inside p c.pop.ensures)
+    (close_passed c.args.kind c.args.first c.requires.inside p c.pop.ensures)
     (c.in_err-step-in-Close.ensures.takes.rejects (cc (w.1, w.2, e)) c.requires.unrefused)
 
 pub returns-in_err-step-in-Seq-clause-invalid : goal.returns-in_err-step-in-Seq-clause-invalid
@@ -36,7 +36,7 @@ returns-in_err-step-in-Seq-clause-invalid g c = λ e.
     subst (λ z. Follows c.args.kind c.args.first (is_close z) c.args.source.now.rest c.after.new.self.rest)
     c.in-Next.is c.in_ok-after.ensures.ok in
     rejects_one (state_before c.args.first c.args.stack.now c.args.source.now.rest (g.V.Visitor.meaning.view c.args.place.now)) element
-    (element_passed _ _ _ c.args.kind c.args.first c.requires.inside c.in-Seq.is p)
+    (element_passed c.args.kind c.args.first c.requires.inside c.in-Seq.is p)
     (c.in_err-step-in-Seq.ensures.takes.rejects (cc (w.1, w.2, e)) c.requires.unrefused)
 
 pub returns-in_err-name-in-Map-clause-invalid : goal.returns-in_err-name-in-Map-clause-invalid
@@ -46,7 +46,7 @@ returns-in_err-name-in-Map-clause-invalid g c = λ e.
     subst (λ z. Follows c.args.kind c.args.first (is_close z) c.args.source.now.rest c.after.new.self.rest)
     c.in-Next.is c.in_ok-after.ensures.ok in
     never_rejects (state_before c.args.first c.args.stack.now c.args.source.now.rest (g.V.Visitor.meaning.view c.args.place.now))
-    (name_ends _ _ _ c.args.kind c.args.first c.requires.inside c.in-Map.is p
+    (name_ends _ _ c.args.kind c.args.first c.requires.inside c.in-Map.is p
     (c.in_err-name-in-Map.ensures.invalid (cc (w.1, w.2, e)) c.in_ok-after.ensures.going))
 
 pub returns-in_err-step-in-Map-clause-invalid : goal.returns-in_err-step-in-Map-clause-invalid
@@ -59,7 +59,7 @@ returns-in_err-step-in-Map-clause-invalid g c = λ e.
     subst (λ z. Names c.after.new.self.rest z c.name.new.self.rest) (sym c.text.ensures)
     c.in_ok-name-in-Map.ensures.ok in
     rejects_one (state_before c.args.first c.args.stack.now c.args.source.now.rest (g.V.Visitor.meaning.view c.args.place.now))
-    (key c.text.result.now) (key_passed _ _ _ _ _ c.args.kind c.args.first c.requires.inside c.in-Map.is p n)
+    (key c.text.result.now) (key_passed c.args.kind c.args.first c.requires.inside c.in-Map.is p n)
     (c.in_err-step-in-Map.ensures.takes.rejects (cc (w.1, w.2, e)) c.requires.unrefused)
 
 pub returns-in_ok-step-in-Close-clause-moved : goal.returns-in_ok-step-in-Close-clause-moved
@@ -69,7 +69,7 @@ returns-in_ok-step-in-Close-clause-moved g c =
     c.in-Close.is c.in_ok-after.ensures.ok in
     moved_one (state_before c.args.first c.args.stack.now c.args.source.now.rest (g.V.Visitor.meaning.view c.args.place.now))
     _ finish
-    (close_passed _ _ _ _ c.args.kind c.args.first c.requires.inside p c.pop.ensures)
+    (close_passed c.args.kind c.args.first c.requires.inside p c.pop.ensures)
     (close_spellable _ _ c.args.first c.requires.inside c.pop.ensures)
     c.in_ok-step-in-Close.ensures.takes.advances
 
@@ -80,7 +80,7 @@ returns-in_ok-step-in-Seq-clause-moved g c =
     c.in-Next.is c.in_ok-after.ensures.ok in
     moved_one (state_before c.args.first c.args.stack.now c.args.source.now.rest (g.V.Visitor.meaning.view c.args.place.now))
     _ element
-    (element_passed _ _ _ c.args.kind c.args.first c.requires.inside c.in-Seq.is p)
+    (element_passed c.args.kind c.args.first c.requires.inside c.in-Seq.is p)
     (element_spellable _ c.args.first c.requires.inside c.in-Seq.is)
     c.in_ok-step-in-Seq.ensures.takes.advances
 
@@ -94,7 +94,7 @@ returns-in_ok-step-in-Map-clause-moved g c =
     c.in_ok-name-in-Map.ensures.ok in
     moved_one (state_before c.args.first c.args.stack.now c.args.source.now.rest (g.V.Visitor.meaning.view c.args.place.now))
     _
-    (key c.text.result.now) (key_passed _ _ _ _ _ c.args.kind c.args.first c.requires.inside c.in-Map.is p n)
+    (key c.text.result.now) (key_passed c.args.kind c.args.first c.requires.inside c.in-Map.is p n)
     (key_spellable _ c.args.first c.requires.inside c.in-Map.is n)
     c.in_ok-step-in-Map.ensures.takes.advances
 

@@ -7,7 +7,7 @@ use Rattle.miniserde_model.specs.Lexing.{Follows}
 use Rattle.miniserde_model.specs.private.Reading.{due}
 use Rattle.miniserde_text.specs.Lexer.{is_close}
 use Rattle.miniserde_text.specs.private.Moments.{first_or_after}
-use Rattle.miniserde_text.specs.private.EventRuns.{Reaches}
+use Rattle.miniserde_text.specs.private.EventRuns.{text_at, Reaches}
 use Rattle.miniserde_text.proofs.Consumes.{close_passed, element_passed, key_passed, after_ends, name_ends}
 use Rattle.miniserde_text.proofs.Consumes.{ends_behind, Reaches-one, Reaches-append}
 use Rattle.miniserde_read.proofs.ignored.take_child_or_end.Goals as goal
@@ -15,7 +15,7 @@ use Rattle.miniserde_read.proofs.ignored.take_child_or_end.Goals as goal
 pub returns-in_err-after-clause-invalid : goal.returns-in_err-after-clause-invalid
 returns-in_err-after-clause-invalid c = λ e.
     let w = err_from_is_err_and c.from_residual.result c.from_residual.ensures.1 in
-    after_ends _ _ c.args.kind c.args.first c.requires.inside (c.in_err-after.ensures.invalid (cc (w.1, w.2, e)) c.requires.going)
+    after_ends _ c.args.kind c.args.first c.requires.inside (c.in_err-after.ensures.invalid (cc (w.1, w.2, e)) c.requires.going)
 
 pub returns-in_err-name_checked-in-Map-clause-invalid : goal.returns-in_err-name_checked-in-Map-clause-invalid
 returns-in_err-name_checked-in-Map-clause-invalid c = λ e.
@@ -23,7 +23,7 @@ returns-in_err-name_checked-in-Map-clause-invalid c = λ e.
     let p : Follows c.args.kind c.args.first false c.args.source.now.rest c.after.new.self.rest =
     subst (λ z. Follows c.args.kind c.args.first (is_close z) c.args.source.now.rest c.after.new.self.rest)
     c.in-Next.is c.in_ok-after.ensures.ok in
-    name_ends _ _ _ c.args.kind c.args.first c.requires.inside c.in-Map.is p
+    name_ends _ _ c.args.kind c.args.first c.requires.inside c.in-Map.is p
     (c.in_err-name_checked-in-Map.ensures.invalid (cc (w.1, w.2, e)) c.in_ok-after.ensures.going)
 
 pub returns-in-Close-clause-reaches : goal.returns-in-Close-clause-reaches
@@ -31,7 +31,7 @@ returns-in-Close-clause-reaches c =
     let p : Follows c.args.kind c.args.first true c.args.source.now.rest c.after.new.self.rest =
     subst (λ z. Follows c.args.kind c.args.first (is_close z) c.args.source.now.rest c.after.new.self.rest)
     c.in-Close.is c.in_ok-after.ensures.ok in
-    Reaches-one _ _ _ _ _ _ _ (close_passed _ _ _ _ c.args.kind c.args.first c.requires.inside p c.pop.ensures)
+    Reaches-one (close_passed c.args.kind c.args.first c.requires.inside p c.pop.ensures)
 
 pub returns-in-Seq-clause-reaches : goal.returns-in-Seq-clause-reaches
 returns-in-Seq-clause-reaches c =
@@ -40,11 +40,9 @@ returns-in-Seq-clause-reaches c =
     let u = c.after.new.self.rest in
     let p : Follows c.args.kind c.args.first false s u =
     subst (λ z. Follows c.args.kind c.args.first (is_close z) s u) c.in-Next.is c.in_ok-after.ensures.ok in
-    let one = Reaches-one _ _ _ _ _ _ _ (element_passed st s u c.args.kind c.args.first c.requires.inside c.in-Seq.is p) in
-    IfOk-weaker c.begin.result (λ b. Reaches due st u (first_or_after b) c.begin.new.stack c.begin.new.source.rest)
-    (λ b. Reaches (first_or_after c.args.first) st s (first_or_after b) c.begin.new.stack c.begin.new.source.rest)
-    (λ b h. Reaches-append (first_or_after c.args.first) st s due st u (first_or_after b) c.begin.new.stack
-    c.begin.new.source.rest one h) c.begin.ensures.reaches
+    let one : Reaches (text_at (first_or_after c.args.first) st s) (text_at due st u) =
+    Reaches-one (element_passed c.args.kind c.args.first c.requires.inside c.in-Seq.is p) in
+    IfOk-weaker c.begin.result _ _ (λ b h. Reaches-append one h) c.begin.ensures.reaches
 
 pub returns-in-Seq-clause-invalid : goal.returns-in-Seq-clause-invalid
 returns-in-Seq-clause-invalid c = λ e.
@@ -53,8 +51,9 @@ returns-in-Seq-clause-invalid c = λ e.
     let u = c.after.new.self.rest in
     let p : Follows c.args.kind c.args.first false s u =
     subst (λ z. Follows c.args.kind c.args.first (is_close z) s u) c.in-Next.is c.in_ok-after.ensures.ok in
-    let one = Reaches-one _ _ _ _ _ _ _ (element_passed st s u c.args.kind c.args.first c.requires.inside c.in-Seq.is p) in
-    ends_behind (first_or_after c.args.first) st s due st u one (c.begin.ensures.invalid e)
+    let one : Reaches (text_at (first_or_after c.args.first) st s) (text_at due st u) =
+    Reaches-one (element_passed c.args.kind c.args.first c.requires.inside c.in-Seq.is p) in
+    ends_behind one (c.begin.ensures.invalid e)
 
 pub returns-in_ok-name_checked-in-Map-clause-reaches : goal.returns-in_ok-name_checked-in-Map-clause-reaches
 returns-in_ok-name_checked-in-Map-clause-reaches c =
@@ -64,14 +63,9 @@ returns-in_ok-name_checked-in-Map-clause-reaches c =
     let p : Follows c.args.kind c.args.first false s c.after.new.self.rest =
     subst (λ z. Follows c.args.kind c.args.first (is_close z) s c.after.new.self.rest) c.in-Next.is
     c.in_ok-after.ensures.ok in
-    let one = Reaches-one _ _ _ _ _ _ _
-    (key_passed st s c.after.new.self.rest _ u c.args.kind c.args.first c.requires.inside c.in-Map.is p
-    c.in_ok-name_checked-in-Map.ensures.ok.1) in
-    let b = c.begin-in-Map.new in
-    IfOk-weaker c.begin-in-Map.result (λ o. Reaches due st u (first_or_after o) b.stack b.source.rest)
-    (λ o. Reaches (first_or_after c.args.first) st s (first_or_after o) b.stack b.source.rest)
-    (λ o h. Reaches-append (first_or_after c.args.first) st s due st u (first_or_after o) b.stack b.source.rest one h)
-    c.begin-in-Map.ensures.reaches
+    let one : Reaches (text_at (first_or_after c.args.first) st s) (text_at due st u) =
+    Reaches-one (key_passed c.args.kind c.args.first c.requires.inside c.in-Map.is p c.in_ok-name_checked-in-Map.ensures.ok.1) in
+    IfOk-weaker c.begin-in-Map.result _ _ (λ o h. Reaches-append one h) c.begin-in-Map.ensures.reaches
 
 pub returns-in_ok-name_checked-in-Map-clause-invalid : goal.returns-in_ok-name_checked-in-Map-clause-invalid
 returns-in_ok-name_checked-in-Map-clause-invalid c = λ e.
@@ -81,7 +75,6 @@ returns-in_ok-name_checked-in-Map-clause-invalid c = λ e.
     let p : Follows c.args.kind c.args.first false s c.after.new.self.rest =
     subst (λ z. Follows c.args.kind c.args.first (is_close z) s c.after.new.self.rest) c.in-Next.is
     c.in_ok-after.ensures.ok in
-    let one = Reaches-one _ _ _ _ _ _ _
-    (key_passed st s c.after.new.self.rest _ u c.args.kind c.args.first c.requires.inside c.in-Map.is p
-    c.in_ok-name_checked-in-Map.ensures.ok.1) in
-    ends_behind (first_or_after c.args.first) st s due st u one (c.begin-in-Map.ensures.invalid e)
+    let one : Reaches (text_at (first_or_after c.args.first) st s) (text_at due st u) =
+    Reaches-one (key_passed c.args.kind c.args.first c.requires.inside c.in-Map.is p c.in_ok-name_checked-in-Map.ensures.ok.1) in
+    ends_behind one (c.begin-in-Map.ensures.invalid e)

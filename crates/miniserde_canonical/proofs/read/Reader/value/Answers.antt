@@ -18,7 +18,7 @@ use Rattle.miniserde_canonical.proofs.read.Reader.value.Goals as goal
 pub returns-in_err-event-clause-invalid : goal.returns-in_err-event-clause-invalid
 returns-in_err-event-clause-invalid c = λ e.
     let w = err_from_is_err_and c.from_residual-in_err-event.result c.from_residual-in_err-event.ensures.1 in
-    start_ends _ _ (λ t r p. c.in_err-event.ensures.invalid (cc (w.1, w.2, e))
+    start_ends _ (λ t r p. c.in_err-event.ensures.invalid (cc (w.1, w.2, e))
     (c.in_ok-at.ensures.going ∙ c.requires.going) t r (starts_at _ _ t r c.in_ok-at.ensures.blank p))
 
 pub returns-clause-reads : goal.returns-clause-reads
@@ -44,7 +44,7 @@ returns-clause-reads c =
     (record { text = at_once mid new s.0 b.stops; at = c.in_ok-at.ensures.at; end = c.left-end.ensures })
     (subst (λ z. SpelledToken escapes event z x) (sym v) q.4) (spelled event x mid new s c.in_ok-event.ensures.text) a in (
       first_token e ∷ [],
-      reads_start _ _ _ e c.is_some.result _ full o st,
+      reads_start e c.is_some.result full o st,
       takes_front {d = d} {d1 = d1} e s.0.part c.is_some.result s.0.is_part o
           (record { wrote = c.in_ok-at.ensures.wrote; only_text = c.in_ok-at.ensures.only_text }) takes,
     )

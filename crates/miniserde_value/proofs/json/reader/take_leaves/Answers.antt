@@ -21,7 +21,7 @@ returns-in_err-after-clause-invalid c = λ e.
     let h = hole_in c.loop-source.builder in
     never_behind c.args.once c.loop-source.invariant.builds
     (stuck c.args.once (state_before c.loop-source.first h c.loop-source.source.rest)
-    (after_ends (kinds h) _ c.args.kind c.loop-source.first
+    (after_ends (kinds h) c.args.kind c.loop-source.first
     (innermost_of_kinds h ∙ c.loop-source.invariant.inside)
     (c.in_err-after.ensures.invalid (cc (w.1, w.2, e)) c.loop-source.invariant.going)))
 

@@ -20,7 +20,7 @@ returns-in_err-name-clause-invalid c = λ first s i p e.
     let w = err_from_is_err_and c.from_residual.result c.from_residual.ensures.1 in
     let h = hole_in c.args.builder.now in
     stuck c.args.once (state_before first h s)
-    (name_ends (kinds h) _ _ c.args.kind first (innermost_of_kinds h ∙ i) c.in_default.is p
+    (name_ends (kinds h) _ c.args.kind first (innermost_of_kinds h ∙ i) c.in_default.is p
     (c.in_err-name.ensures.invalid (cc (w.1, w.2, e)) c.requires))
 
 pub returns-in_err-copy-clause-invalid : goal.returns-in_err-copy-clause-invalid
