@@ -1,16 +1,15 @@
--- The text gets shorter where a value is read (`due_less`, `element_less`), and where no value is due, no element is
--- (`element_rejects`). `due_front` goes from the first token that a text has to the one that was taken.
-use Rattle.std.proofs.Common.{ℕ, ◌<◌, Bool, false, List, length, Option, Some, refl, subst, arith}
+-- The text gets shorter where a value is read (`due_less`), and where no value is due, no element is (`element_rejects`).
+-- `due_front` goes from the first token that a text has to the one that was taken.
+use Rattle.std.proofs.Common.{ℕ, ◌<◌, Bool, false, List, length, Option, refl, subst, arith}
 use Rattle.miniserde_model.specs.Tree.{Tree, no_trees, tree}
 use Rattle.miniserde_model.specs.Step.{Step}
 use Rattle.miniserde_model.specs.Lexing.{Starts, Follows}
 use Rattle.miniserde_model.specs.declared.kind.Kind.TheVariants.{Seq}
-use Rattle.miniserde_read.specs.Meaning.{Meaning}
 use Rattle.miniserde_read.specs.Rest.{ValueAt, GivesAt, GivesNoneAt}
 use Rattle.miniserde_text.proofs.FirstEvents.{start_less, same_start}
-use Rattle.miniserde_read.proofs.Length.{follows_least, value_least}
+use Rattle.miniserde_read.proofs.Length.{value_least}
 use Rattle.miniserde_text.proofs.NextChild.{next_same, close_no_next}
-use Rattle.miniserde_read.specs.Due.{ReadsDue, RejectsDue, NextElement, ElementRejects}
+use Rattle.miniserde_read.specs.Due.{ReadsDue, RejectsDue, ElementRejects}
 
 -- the text behind a value that was due is shorter than the text before it
 pub due_less : {S : Type 0} {next : Tree → Option S} {s r : List ℕ} {m : S} → ReadsDue next s r m → length r < length s
@@ -33,13 +32,6 @@ due_reads of {c = c} e k p = record { one = p.0; event = e; behind = c; starts =
 -- what gives nothing behind the first token, gives nothing where it was due
 pub due_rejects : {C : Type 0} (of : Tree → Option C) (s c : List ℕ) (e : Step) → Starts s e c → GivesNoneAt of e c → RejectsDue of s
 due_rejects of s c e k n t d b r h v = n t r (due_front r d e t k h v)
-
-module _ {V : Type 0} (m : Meaning V) (f : Bool) (s : List ℕ) where
-  -- the text behind an element is shorter than the text before it
-  pub element_less : (r : List ℕ) (v : V) → NextElement m f s r (Some v) → length r < length s
-  element_less r v p =
-      let a = follows_least Seq f false s p.0 p.1 in
-      omega (arith, a, due_less p.2)
 
 -- the value that is due is the first element
 pub element_rejects : {C : Type 0} (of : Tree → Option C) (f : Bool) (s b : List ℕ) → Follows Seq f false s b → RejectsDue of b

@@ -1,7 +1,7 @@
 -- While an object is read member by member, the remaining members give from the state so far what the whole object
 -- gives from the empty state. `ObjectGoes` is this invariant: `object_begins` establishes it, `object_goes` carries
 -- it over one member, and `object_ends`, `object_none` and `no_object_follows` use it at the exits of the loop.
-use Rattle.std.proofs.Common.{◌≡◌, ℕ, ◌<◌, Bool, true, false, List, length, Option, Some, None, refl, ap, subst, ◌∙◌, arith}
+use Rattle.std.proofs.Common.{◌≡◌, ℕ, Bool, true, false, List, Option, Some, None, refl, ap, subst, ◌∙◌, arith}
 use Rattle.miniserde_model.specs.Tree.{Tree, members, Members, no_members, member}
 use Rattle.miniserde_model.specs.Step.{map}
 use Rattle.miniserde_model.specs.Lexing.{Names, Follows}
@@ -14,8 +14,7 @@ use Rattle.miniserde_read.specs.Due.{ReadsDue, RejectsDue}
 use Rattle.miniserde_read.specs.Rest.{ValueAt, MembersAt, GivesAt, GivesNoneAt}
 use Rattle.miniserde_read.specs.Source.{NameFollows}
 use Rattle.miniserde_read.specs.types.Objects.{Name, after_members}
-use Rattle.miniserde_read.proofs.Due.{due_less, due_front}
-use Rattle.miniserde_read.proofs.Length.{follows_least, stands_least}
+use Rattle.miniserde_read.proofs.Due.{due_front}
 use Rattle.miniserde_read.proofs.Same.{value_same, tag, first_event, value_event}
 use Rattle.miniserde_read.proofs.Steps.{members_follow, members_name, members_there, members_close}
 
@@ -47,15 +46,6 @@ module _ {S : Type 0} (next : S → Name → Tree → Option S) where
 
   none_more : (m : S) (n : Name) (t : Tree) (us : Members) → next m n t ≡ None → after_members next m (member n t us) ≡ None
   none_more m n t us e = rw e refl
-
--- the text behind a member is shorter than the text before it
-pub member_less : {S : Type 0} {next : Tree → Option S} {m : S} {o : Option Text} {name : Text} {c d : List ℕ} (x : List ℕ) (f : Bool)
-    (s : List ℕ) → NameFollows o x f s c → o ≡ Some name → ReadsDue next c d m → length d < length s
-member_less {o = None} x f s h e p = absurd (cc)
-member_less {o = Some n} {c = c} x f s h e p =
-    let a = follows_least Map f false s h.0 h.1 in
-    let b = stands_least h.0 c h.2 in
-    omega (arith, a, b, due_less p)
 
 module _ {S : Type 0} {next : S → Name → Tree → Option S} {empty : S} {begin : List ℕ} {f : Bool} {s : List ℕ} {m : S}
     (g : ObjectGoes next empty begin f s m) where

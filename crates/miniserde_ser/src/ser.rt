@@ -53,7 +53,8 @@ pub struct Writer {
     first: bool,
     // Whether a call failed.
     refused: bool,
-    // Whether each tree that was written is known to be in normal form. Opening an object in any order ends it.
+    // Whether each tree that was written is known to be in normal form. Opening an object in any order ends it, and so
+    // does a name that is not known to come after the one before it.
     normal: bool,
 }
 
@@ -106,7 +107,8 @@ impl Writer {
     }
 
     /// Whether each tree that was written is known to be in normal form. The compact text of a value is then its
-    /// canonical text. It is `false` if the writer was not made by `watching`, or an object was opened by `map`.
+    /// canonical text. It is `false` if the writer was not made by `watching`, an object was opened by `map`, or the names
+    /// of a `BTreeMap` are not known to rise.
     #[inline(always)]
     pub fn is_normal(&self) -> bool
         ensures { result ≡ self.now.normal }

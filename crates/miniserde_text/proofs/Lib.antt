@@ -20,5 +20,6 @@ pub mod Decimals
 pub mod Stacks
 pub mod FirstEvents
 pub mod NextChild
+pub mod NothingLeft
 pub mod Consumes
 pub mod Wholes

@@ -10,7 +10,6 @@ use Rattle.std.specs.BTreeMap.{is_at, insert_entry, IsOrdered}
 use Rattle.std.specs.List.{AllByRecursion}
 use Rattle.std.specs.List.Sorted.{IsStrictlySortedBy}
 use Rattle.std.proofs.lemmas.Map.Keys.{sorted_head, sorted_tail}
-use Rattle.std.proofs.lemmas.Map.Lookups.{exact_bytes}
 use Rattle.miniserde_model.specs.Tree.{Tree, Members, member}
 use Rattle.miniserde_model.specs.Normal.{text_cmp, or_else, last_of, BeginsAbove, Rise, put}
 use Rattle.miniserde_model.proofs.Lookups.{or_else_none}

@@ -1,6 +1,6 @@
 -- The tree that a value keeps has the normal form of the tree that was read, and is that tree if its names are in
 -- order. The first is `norm_after`, the second is by recursion over the tree: a name below all others stays first.
-use Rattle.std.proofs.Common.{◌≡◌, ℕ, ℤ, pos, negsuc, List, sym, refl, ap, ap₂, ◌∙◌}
+use Rattle.std.proofs.Common.{◌≡◌, ℤ, pos, negsuc, sym, refl, ap, ap₂, ◌∙◌}
 use Rattle.miniserde_model.specs.Tree.{Tree, neg, list, members, Trees, no_trees, tree, Members, no_members, member}
 use Rattle.miniserde_model.specs.Normal.{with_if_absent, norm_neg, norm, Rise}
 use Rattle.miniserde_model.proofs.Lookups.{first_of_all}

@@ -13,7 +13,7 @@ use super::marks::{Mark, Once, Plain};
 use super::structs::{Parts, Record};
 use miniserde_model::error::{Error, Result};
 use miniserde_read::{FromJson, Source, read_due, skip_due};
-use miniserde_text::json::lex::Event;
+use miniserde_text::json::lex::{After, Event, Kind};
 use std::alloc::Global;
 use std::marker::PhantomData;
 
@@ -236,12 +236,13 @@ pub fn read_record<'a, S: Record, F: Slots<Values = S::Values>>(
         return Err(Error::Invalid);
     };
     let mut fields = F::new();
-    let mut first = true;
-    while let Some(name) = source.member(first)? {
+    let mut next = source.after(Kind::Map, true)?;
+    while let After::Next = next {
+        let name = source.name()?;
         // Reading the value may replace the scratch text.
         let name = source.take_text(name);
         fields.read_member::<InLine>(S::names(), name.as_str(), source)?;
-        first = false;
+        next = source.after(Kind::Map, false)?;
     }
     Ok(S::build(fields.end(source.alloc())?))
 }

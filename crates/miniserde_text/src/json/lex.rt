@@ -84,7 +84,7 @@ pub enum After {
 pub struct Lexer<'a> {
     // The whole text.
     text: &'a str,
-    // The index of the first byte that is left.
+    // The index of the first byte that is left. After an error nothing is left, so each call fails by itself.
     at: usize,
     // The first error.
     refused: Option<Error>,
@@ -92,12 +92,14 @@ pub struct Lexer<'a> {
 }
 
 impl<'a> Model for Lexer<'a> {
-    ghost use Rattle.std.specs.Prelude.{drop};
+    ghost use Rattle.std.specs.Prelude.{◌≡◌, [], drop, IfSome};
     ghost use Rattle.miniserde_text.specs.Lexer.{LexerView};
 
     ghost Value = { LexerView };
 
     ghost view = { λ l. record { rest = drop l.at l.text.now; refused = l.refused } };
+
+    ghost invariant = { λ l. IfSome l.refused (λ _. drop l.at l.text.now ≡ []) };
 }
 
 impl<'a> Lexer<'a> {
@@ -210,16 +212,13 @@ impl<'a> Lexer<'a> {
         ensures err { IfErr result (λ e. self.new.refused ≡ Some e) }
         ensures sticky { IfSome self.old.refused (λ e. (result ≡ Err e) × (self.new ≡ self.old)) }
     {
-        if let Some(e) = self.refused {
-            return Err(e);
-        }
         let (at, first) = after_space(self.text.as_bytes(), self.at);
         match take_token::<S>(self.text, at, first, scratch) {
             Ok((event, end)) => {
                 self.at = end;
                 Ok(event)
             }
-            Err(e) => self.refuse(e),
+            Err(e) => Err(self.refuse(e)),
         }
     }
 
@@ -271,16 +270,13 @@ impl<'a> Lexer<'a> {
         ensures err { IfErr result (λ e. self.new.refused ≡ Some e) }
         ensures sticky { IfSome self.old.refused (λ e. (result ≡ Err e) × (self.new ≡ self.old)) }
     {
-        if let Some(e) = self.refused {
-            return Err(e);
-        }
         let (at, first) = after_space(self.text.as_bytes(), self.at);
         match take_name::<S>(self.text, at, first, scratch) {
             Ok((text, end)) => {
                 self.at = end;
                 Ok(text)
             }
-            Err(e) => self.refuse(e),
+            Err(e) => Err(self.refuse(e)),
         }
     }
 
@@ -298,9 +294,6 @@ impl<'a> Lexer<'a> {
         ensures err { IfErr result (λ e. self.new.refused ≡ Some e) }
         ensures sticky { IfSome self.old.refused (λ e. (result ≡ Err e) × (self.new ≡ self.old)) }
     {
-        if let Some(e) = self.refused {
-            return Err(e);
-        }
         let bytes = self.text.as_bytes();
         let (at, byte) = after_space(bytes, self.at);
         match take_punctuation(kind, first, bytes, at, byte) {
@@ -308,7 +301,7 @@ impl<'a> Lexer<'a> {
                 self.at = end;
                 Ok(answer)
             }
-            None => self.refuse(Error::Invalid),
+            None => Err(self.refuse(Error::Invalid)),
         }
     }
 
@@ -329,15 +322,23 @@ impl<'a> Lexer<'a> {
         if at == bytes.len() {
             return Ok(());
         }
-        self.refuse(Error::Invalid)
+        Err(self.refuse(Error::Invalid))
     }
 
-    // Keeps an error as the first error of the lexer, which has none yet, and returns it.
-    fn refuse<T>(&mut self, e: Error) -> Result<T>
-        ensures answer { result ≡ Err e }
-        ensures sticky { self.new ≡ record { rest = self.old.rest; refused = Some e } }
+    // Returns the first error of the lexer. If there is none yet, keeps `e` as the first and leaves nothing of the text.
+    // Kept out of line, since it is seldom called.
+    #[cold]
+    #[inline(never)]
+    fn refuse(&mut self, e: Error) -> Error
+        ensures kept { self.new.refused ≡ Some result }
+        ensures first { self.old.refused ≡ None → result ≡ e }
+        ensures sticky { IfSome self.old.refused (λ first. (result ≡ first) × (self.new ≡ self.old)) }
     {
+        if let Some(first) = self.refused {
+            return first;
+        }
         self.refused = Some(e);
-        Err(e)
+        self.at = self.text.len();
+        e
     }
 }

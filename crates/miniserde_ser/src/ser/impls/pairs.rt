@@ -12,8 +12,8 @@ impl<A: Serialize, B: Serialize> Serialize for (A, B) {
         // No call of `seq` or `element`, since it is known which element is the first.
         w.punctuate('[', false)?;
         first.begin(w)?;
-        w.punctuate(',', false)?;
+        w.append_mark(',')?;
         second.begin(w)?;
-        w.punctuate(']', false)
+        w.append_mark(']')
     }
 }

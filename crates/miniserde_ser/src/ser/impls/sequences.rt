@@ -18,6 +18,7 @@ fn write_each<T: Serialize>(items: &[T], w: &mut Writer) -> Result<()>
     ensures ok { OnOk result (w.new.text ≡ w.old.text ++ compact_children (trees_of T.tree items.now)) }
     ensures in_range { OnOk result (AllInRange (trees_of T.tree items.now)) }
     ensures normal { OnOk result (KeepsNormal w.old (list (trees_of T.tree items.now)) w.new) }
+    ensures first { OnOk result (w.old.first ≡ false → w.new.first ≡ false) }
     ensures unrefused { OnOk result (w.new.refused ≡ false) }
     ensures memory { OnErr result (IsErrOf result Memory) }
     ensures err { OnErr result (w.new.refused ≡ true) }
@@ -38,9 +39,10 @@ fn write_each<T: Serialize>(items: &[T], w: &mut Writer) -> Result<()>
 fn write_items<T: Serialize>(items: &[T], w: &mut Writer) -> Result<()>
     ensures { WritesTree w.old (list (trees_of T.tree items.now)) result w.new }
 {
-    w.seq()?;
+    // No call of `seq`, since no item asks whether it is the first.
+    w.punctuate('[', false)?;
     write_each(items, w)?;
-    w.seq_finish()
+    w.append_mark(']')
 }
 
 impl<T: Serialize> Serialize for &[T] {
@@ -72,14 +74,14 @@ impl<T: Serialize> Serialize for VecDeque<T> {
 
     fn begin(&self, w: &mut Writer) -> Result<()> {
         let (front, back) = self.as_slices();
-        w.seq()?;
+        w.punctuate('[', false)?;
         write_each(front, w)?;
         if back.is_empty() {
-            return w.seq_finish();
+            return w.append_mark(']');
         }
         // An item stands before those of `back`.
         w.append_mark(',')?;
         write_each(back, w)?;
-        w.seq_finish()
+        w.append_mark(']')
     }
 }

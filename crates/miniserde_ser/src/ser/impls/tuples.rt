@@ -1,5 +1,5 @@
 //! Writes tuples of three to six items, as lists.
-ghost use Rattle.std.specs.Prelude.{◌≡◌, ◌<◌, [], ◌∷◌, ◌++◌, false, true, OnOk, OnErr, IsErrOf};
+ghost use Rattle.std.specs.Prelude.{◌≡◌, [], ◌∷◌, ◌++◌, false, true, OnOk, OnErr, IsErrOf};
 ghost use Rattle.miniserde_model.specs.Tree.{list, no_trees, tree};
 ghost use Rattle.miniserde_model.specs.Compact.{compact};
 ghost use Rattle.miniserde_model.specs.InRange.{InRange};
@@ -9,21 +9,20 @@ ghost use Rattle.miniserde_ser.specs.Writer.{KeepsNormal};
 use crate::ser::{Serialize, Writer};
 use miniserde_model::error::Result;
 
-// Writes `before`, an opening bracket or a comma, and then an item of a list. Returns `Memory` if an allocation fails
-// or an earlier call of the writer failed.
+// Writes a comma and then an item of a list. Returns `Memory` if an allocation fails or an earlier call of the writer
+// failed.
 #[inline(always)]
-fn write_item<T: Serialize>(item: &T, before: char, w: &mut Writer) -> Result<()>
-    requires ascii { before < 128 }
-    ensures ok { OnOk result (w.new.text ≡ w.old.text ++ (before ∷ []) ++ compact (T.tree item.now)) }
+fn write_later<T: Serialize>(item: &T, w: &mut Writer) -> Result<()>
+    ensures ok { OnOk result (w.new.text ≡ w.old.text ++ (44 ∷ []) ++ compact (T.tree item.now)) }
     ensures in_range { OnOk result (InRange (T.tree item.now)) }
     ensures normal { OnOk result (KeepsNormal w.old (T.tree item.now) w.new) }
-    ensures first { OnOk result (w.new.first ≡ false) }
+    ensures first { OnOk result (w.old.first ≡ false → w.new.first ≡ false) }
     ensures unrefused { OnOk result (w.new.refused ≡ false) }
     ensures was_running { OnOk result (w.old.refused ≡ false) }
     ensures memory { OnErr result (IsErrOf result Memory) }
     ensures err { OnErr result (w.new.refused ≡ true) }
 {
-    w.punctuate(before, false)?;
+    w.append_mark(',')?;
     item.begin(w)
 }
 
@@ -32,10 +31,11 @@ impl<A: Serialize, B: Serialize, C: Serialize> Serialize for (A, B, C) {
 
     fn begin(&self, w: &mut Writer) -> Result<()> {
         let (a, b, c) = self;
-        write_item(a, '[', w)?;
-        write_item(b, ',', w)?;
-        write_item(c, ',', w)?;
-        w.punctuate(']', false)
+        w.punctuate('[', false)?;
+        a.begin(w)?;
+        write_later(b, w)?;
+        write_later(c, w)?;
+        w.append_mark(']')
     }
 }
 
@@ -44,11 +44,12 @@ impl<A: Serialize, B: Serialize, C: Serialize, D: Serialize> Serialize for (A, B
 
     fn begin(&self, w: &mut Writer) -> Result<()> {
         let (a, b, c, d) = self;
-        write_item(a, '[', w)?;
-        write_item(b, ',', w)?;
-        write_item(c, ',', w)?;
-        write_item(d, ',', w)?;
-        w.punctuate(']', false)
+        w.punctuate('[', false)?;
+        a.begin(w)?;
+        write_later(b, w)?;
+        write_later(c, w)?;
+        write_later(d, w)?;
+        w.append_mark(']')
     }
 }
 
@@ -59,12 +60,13 @@ impl<A: Serialize, B: Serialize, C: Serialize, D: Serialize, E: Serialize> Seria
 
     fn begin(&self, w: &mut Writer) -> Result<()> {
         let (a, b, c, d, e) = self;
-        write_item(a, '[', w)?;
-        write_item(b, ',', w)?;
-        write_item(c, ',', w)?;
-        write_item(d, ',', w)?;
-        write_item(e, ',', w)?;
-        w.punctuate(']', false)
+        w.punctuate('[', false)?;
+        a.begin(w)?;
+        write_later(b, w)?;
+        write_later(c, w)?;
+        write_later(d, w)?;
+        write_later(e, w)?;
+        w.append_mark(']')
     }
 }
 
@@ -75,12 +77,13 @@ impl<A: Serialize, B: Serialize, C: Serialize, D: Serialize, E: Serialize, F: Se
 
     fn begin(&self, w: &mut Writer) -> Result<()> {
         let (a, b, c, d, e, f) = self;
-        write_item(a, '[', w)?;
-        write_item(b, ',', w)?;
-        write_item(c, ',', w)?;
-        write_item(d, ',', w)?;
-        write_item(e, ',', w)?;
-        write_item(f, ',', w)?;
-        w.punctuate(']', false)
+        w.punctuate('[', false)?;
+        a.begin(w)?;
+        write_later(b, w)?;
+        write_later(c, w)?;
+        write_later(d, w)?;
+        write_later(e, w)?;
+        write_later(f, w)?;
+        w.append_mark(']')
     }
 }

@@ -22,5 +22,6 @@ loop-item-preserved-in_ok-append_mark g c =
       normal = λ a n.
           let kept = c.in_ok-begin.ensures.normal (sym (ap (λ s. s.normal) c.in_ok-append_mark.ensures.ok) ∙ n) in
           inv.normal (subst (λ xs. AreNormal (trees_of f xs)) (sym split.0) (ap₂ tree kept.1 a)) kept.0;
+      first = λ b. ap (λ s. s.first) c.in_ok-append_mark.ensures.ok ∙ c.in_ok-begin.ensures.first (inv.first b);
       unrefused = ap (λ s. s.refused) c.in_ok-append_mark.ensures.ok ∙ c.in_ok-begin.ensures.unrefused;
     }

@@ -1,6 +1,6 @@
 -- The text and the elements that are left make those of all. If the trees of these elements are in
 -- range, so are those of all. If they are in normal form and the flag `normal` is true, it was true before, and all are in
--- normal form. The writer has not failed.
+-- normal form. If the flag `first` was false, it still is. The writer has not failed.
 use Rattle.std.proofs.Common.{◌≡◌, ◌++◌, false, true, length}
 use Rattle.miniserde_model.specs.Compact.{compact_children}
 use Rattle.miniserde_model.specs.InRange.{AllInRange}
@@ -15,6 +15,7 @@ invariant-loop-item g l = record {
   in_range : AllInRange (trees_of g.T.Serialize.tree l.rest) → AllInRange (trees_of g.T.Serialize.tree l.items);
   normal : AreNormal (trees_of g.T.Serialize.tree l.rest) → l.w.normal ≡ true
       → (l.fn.w.normal ≡ true) × AreNormal (trees_of g.T.Serialize.tree l.items);
+  first : l.fn.w.first ≡ false → l.w.first ≡ false;
   unrefused : l.w.refused ≡ false;
 }
 

@@ -1,6 +1,6 @@
 -- The items are those of `front` and then those of `back`. Where `back` has some, so has `front`, and a comma stands between
 -- the two (`compact_parts`).
-use Rattle.std.proofs.Common.{◌≡◌, ◌<◌, ◌∷◌, [], arith, ap, sym, subst, ◌∙◌, length, false}
+use Rattle.std.proofs.Common.{◌≡◌, ◌<◌, ◌∷◌, [], arith, ap, sym, subst, ◌∙◌, length}
 use Rattle.std.proofs.lemmas.Bool.Decides.{nat_tests}
 use Rattle.std.proofs.lemmas.Result.{on_ok_weaker}
 use Rattle.miniserde_model.specs.InRange.{AllInRange}
@@ -18,25 +18,26 @@ returns-clause-ok g c =
     let back = c.as_slices.result.1.now in
     let later : 0 < length back = grind (arith, nat_tests, c.is_empty.ensures, c.if-is_empty.false) in
     let first : 0 < length front = c.as_slices.ensures.first_filled.1 (omega (arith, later, c.as_slices.ensures.len)) in
-    appends_text c.seq_finish-2.ensures (compact_parts g.T.Serialize.tree front back _ c.as_slices.ensures.items first later
-    (ap (λ s. s.text) c.in_ok-seq.ensures.ok) c.in_ok-write_each.ensures.ok (ap (λ s. s.text) c.in_ok-append_mark.ensures.ok)
+    appends_text c.append_mark-3.ensures (compact_parts g.T.Serialize.tree front back _ c.as_slices.ensures.items first later
+    (ap (λ s. s.text) c.in_ok-punctuate.ensures.ok) c.in_ok-write_each.ensures.ok (ap (λ s. s.text) c.in_ok-append_mark.ensures.ok)
     c.in_ok-write_each-2.ensures.ok)
 
 pub returns-clause-in_range : goal.returns-clause-in_range
 returns-clause-in_range g c =
     let f = g.T.Serialize.tree in
     let both = AllInRange-append f _ _ c.in_ok-write_each.ensures.in_range c.in_ok-write_each-2.ensures.in_range in
-    on_ok_weaker c.seq_finish-2.result (λ _. subst (λ xs. AllInRange (trees_of f xs)) c.as_slices.ensures.items both)
-    c.seq_finish-2.ensures.ok
+    on_ok_weaker c.append_mark-3.result (λ _. subst (λ xs. AllInRange (trees_of f xs)) c.as_slices.ensures.items both)
+    c.append_mark-3.ensures.ok
 
 pub returns-clause-normal : goal.returns-clause-normal
 returns-clause-normal g c =
     let f = g.T.Serialize.tree in
-    on_ok_weaker c.seq_finish-2.result
-    (λ (e : c.seq_finish-2.new.self ≡ with_first_flag (after_append c.write_each-2.new.w (93 ∷ []) c.seq_finish-2.new.self.capacity) false) n.
+    on_ok_weaker c.append_mark-3.result
+    (λ (e : c.append_mark-3.new.self ≡ with_first_flag (after_append c.write_each-2.new.w (93 ∷ []) c.append_mark-3.new.self.capacity)
+    c.write_each-2.new.w.first) n.
     let back = c.in_ok-write_each-2.ensures.normal (sym (ap (λ s. s.normal) e) ∙ n) in
     let front = c.in_ok-write_each.ensures.normal (sym (ap (λ s. s.normal) c.in_ok-append_mark.ensures.ok) ∙ back.0) in (
-      sym (ap (λ s. s.normal) c.in_ok-seq.ensures.ok) ∙ front.0,
+      sym (ap (λ s. s.normal) c.in_ok-punctuate.ensures.ok) ∙ front.0,
       subst (λ xs. norm (list (trees_of f xs)) ≡ list (trees_of f xs)) c.as_slices.ensures.items (normal_list-append f _ _ front.1 back.1),
     ))
-    c.seq_finish-2.ensures.ok
+    c.append_mark-3.ensures.ok
