@@ -227,7 +227,8 @@ class Reader:
             self.found += [newtype] if newtype else []
             self.now = None if newtype else head_of(bare, number, above)
         except Refused:
-            left_out = Definition("enum" if begun[2] == "enum" else "struct", begun[3], number, [], [], "", ()) if begun else None
+            derives = [name for _, it in above for names in DERIVE.findall(it) for name in re.findall(r"\w+", names)]
+            left_out = Definition("enum" if begun[2] == "enum" else "struct", begun[3], number, [], derives, "", ()) if begun else None
             if begun and re.search(r"\)\s*;", bare):
                 self.left_out.append(left_out)
             elif begun:
@@ -289,8 +290,9 @@ def check(found, uses, left_out):
     foreign = names_known(named, [line for line in uses if not re.match(r"(?:pub )?use (?:std|core|alloc)::", line)])
     faults += mark_inside(found, known)
     for it in found:
-        faults += [*check_foreign_marks(it), *check_tagged(it), *check_written(it), *check_params(it, known), *check_derives(it, found, uses)]
+        faults += [*check_foreign_marks(it), *check_tagged(it), *check_written(it), *check_params(it, known)]
     for it in named:
+        faults += check_derives(it, found, uses)
         names = known if "text" in it.words else foreign
         for part in it.parts:
             faults.seen(check_type, part.of, {*names, "char"} if it.kind == "newtype" else names, part.line)

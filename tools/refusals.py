@@ -45,7 +45,7 @@ KEYWORDS = set(
 
 # Types that are not read, each with what to write.
 UNREAD = {
-    "f32 f64": "`miniserde::json::Number` keeps a fraction as its text",
+    "f32 f64": "`miniserde::json::Number` keeps a fraction as its text; reckon with an integer of a smaller unit",
     "i128 u128": "an integer of 64 bits, or `miniserde::json::Number`, which keeps any number",
     "char str OsString Path PathBuf": "`String`",
     "BTreeSet BinaryHeap HashSet LinkedList": "`Vec`",
@@ -122,7 +122,7 @@ def check_param(param, bare, line):
 
 def check_derives(it, found, uses):
     """Refuses a `Default`, which nothing derives, and derives around what lacks them, as a `Clone`, since a copy may fail to allocate."""
-    documents = {"Array", "Document", "Number", "Object", "Unique", "Value"} - names_beside("miniserde::json", found, uses)
+    documents = {"Array", "Document", "Number", "Object", "Unique", "Value"} - names_beside("miniserde(?:_core)?::json", found, uses)
     lacking = [f"`{each}`" for each in it.derives if each in ("Clone", "Copy", "PartialEq", "Eq", "PartialOrd", "Ord", "Hash")]
     if "Default" in it.derives:
         yield f"line {it.line}: `Default` is not derived: leave it out, and mark the fields that may be missing: {it.shown}"
@@ -331,7 +331,7 @@ def with_word(found, word):
 def check_word(found, uses, word, reason):
     """Refuses fields of the types with a word that are documents, or of types of the file without the word: of a field the first such name."""
     plain = {it.name for it in found if word not in it.words}
-    documents = {"Array", "Number", "Object", "Unique", "Value"} - names_beside("miniserde::json", found, uses)
+    documents = {"Array", "Number", "Object", "Unique", "Value"} - names_beside("miniserde(?:_core)?::json", found, uses)
     for it in found:
         for part in it.parts if word in it.words else []:
             names = re.findall(rf"(?:(?<![\w:])|(?<=json::)){NAME}", part.of)

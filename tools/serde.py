@@ -8,6 +8,7 @@ SERDE = re.compile(r"#\[serde\((.*)\)\s*\]", re.S)
 USE = re.compile(r"(?:pub )?use serde(?:_derive)?\b")
 # What stands for attributes that are not read.
 INSTEAD = {
+    "borrow": "a value owns its text, so leave the attribute out",
     "content": "write a struct with the kind as an enum without data, and the data in `Option`s",
     "deserialize_with": "write a newtype with the word `text`",
     "flatten": "write the fields of the inner struct",
