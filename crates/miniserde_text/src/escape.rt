@@ -106,6 +106,7 @@ fn put_ascii(bytes: &[u8], out: &mut String)
 }
 
 // Appends the escape of a byte that must be escaped. `out` has room for it.
+#[inline(always)]
 fn put_escape(b: u8, out: &mut String)
     requires special { bytes.is_special b ≡ true }
     requires room { string_len out.old + length (escape b) ≤ string_capacity out.old }

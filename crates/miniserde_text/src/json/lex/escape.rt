@@ -86,6 +86,7 @@ fn low(high: u32, bytes: &[u8], at: usize) -> Option<(char, usize)>
 
 // Takes the four digits of a `\u` escape, and after a high surrogate a second escape. Returns the
 // character and the index after it, or `None` if digits are wrong or a surrogate has no partner.
+#[inline(always)]
 #[tactic(auto, unfolding(crate::specs::private::Reading::unicode_at))]
 fn unicode(bytes: &[u8], at: usize) -> Option<(char, usize)>
     requires { at ≤ length bytes.now }
