@@ -1,10 +1,12 @@
 -- After an error nothing is left of a lexer's text, and what its calls take is never empty. So if a call took
 -- something, there was no error.
-use Rattle.std.proofs.Common.{◌≡◌, ℕ, Bool, true, false, Option, Some, None, IfSome, List, [], ◌++◌, length}
+use Rattle.std.proofs.Common.{◌≡◌, ℕ, Bool, true, false, Option, Some, None, IfSome, Result, Ok, List, [], ◌++◌, length}
 use Rattle.std.proofs.Common.{refl, sym, ap, subst, ◌∙◌, arith, length-append}
 use Rattle.miniserde_model.specs.Step.{Step}
 use Rattle.miniserde_model.specs.Lexing.{Stands, Starts, Names, Follows}
+use Rattle.miniserde_model.specs.declared.error.Error.{Error}
 use Rattle.miniserde_model.specs.declared.kind.Kind.{Kind}
+use Rattle.miniserde_text.specs.Lexer.{KeepsFirstError}
 use Rattle.miniserde_text.proofs.FirstEvents.{start_less, name_head}
 
 -- if s is whitespace, a part and r, and the part or r has a byte, s has one
@@ -38,3 +40,8 @@ unrefused (Some e) s h some = absurd (some h)
 -- if there is no error, any P holds of the error, if there is one
 pub if_unrefused : {E : Type 0} (o : Option E) (P : E → Type 0) → o ≡ None → IfSome o P
 if_unrefused o P h = subst (λ x. IfSome x P) (sym h) tt
+
+-- a call that returns `Ok` keeps the first error if there was none before, and none is there afterwards
+pub no_error : {A : Type 0} (before after : Option Error) (a : A) → before ≡ None → after ≡ None
+    → KeepsFirstError before (Ok a) after
+no_error before after a fresh none = record { again = if_unrefused before _ fresh; kept = none }

@@ -1,5 +1,6 @@
 -- What a contract sees of a lexer, its tokens and its scratch text.
-use Rattle.std.specs.Prelude.{◌≡◌, ℕ, List, ◌∷◌, ◌++◌, Option, Bool, true, false, ⊤}
+use Rattle.std.specs.Prelude.{◌≡◌, ℕ, List, ◌∷◌, ◌++◌, Option, Bool, true, false, Result, Err, IfSome, ⊤}
+use Rattle.std.specs.Result.{result_err}
 use Rattle.std.specs.List.{AllByRecursion}
 use Rattle.miniserde_model.specs.Bytes.{is_special, is_space, StopsAt}
 use Rattle.miniserde_model.specs.Whitespace.{IsWhitespace}
@@ -19,6 +20,12 @@ use Rattle.miniserde_text.specs.declared.json.lex.After.TheVariants as after
 pub record LexerView : Type 0 where
   pub rest : List ℕ
   pub refused : Option Error
+
+-- What a call does with the first error. If one was kept before, the call returns it. The error that it returns is kept
+-- afterwards, and after `Ok` none is.
+pub record KeepsFirstError {A : Type 0} (before : Option Error) (answer : Result A Error) (after : Option Error) : Type 0 where
+  pub again : IfSome before (λ e. answer ≡ Err e)
+  pub kept : after ≡ result_err answer
 
 -- the text of a string or of a name: the borrowed one, or else the scratch text
 abbrev pub text_of : Text → List ℕ → List ℕ

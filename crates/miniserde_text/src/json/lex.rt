@@ -10,7 +10,7 @@ ghost use Rattle.miniserde_model.specs.Whitespace.{IsWhitespace};
 ghost use Rattle.miniserde_model.specs.Step as punctuation;
 ghost use Rattle.miniserde_model.specs.Lexing.{Starts, Names, Follows};
 ghost use Rattle.miniserde_text.specs.Lexer.{event_of_token, text_of, is_close, TokenBorrowedIfPlain, NameBorrowedIfPlain, Blank};
-ghost use Rattle.miniserde_text.specs.Lexer.{LeavesScratch, TokenLeavesScratch, BeginsEscaped, SpelledText, SpelledToken};
+ghost use Rattle.miniserde_text.specs.Lexer.{KeepsFirstError, LeavesScratch, TokenLeavesScratch, BeginsEscaped, SpelledText, SpelledToken};
 ghost use Rattle.miniserde_text.specs.private.Escape.{escapes};
 ghost use Rattle.miniserde_model.specs.declared.error.Error.{Error};
 
@@ -153,15 +153,14 @@ impl<'a> Lexer<'a> {
     /// no token is next. After an error `scratch` may contain anything.
     #[inline(always)]
     pub fn start(&mut self, scratch: &mut String) -> Result<Event<'a>>
-        ensures ok { IfOk result (λ event. (self.old.refused ≡ None) × (self.new.refused ≡ None)
-            × Starts self.old.rest (event_of_token event (string_bytes scratch.new)) self.new.rest) }
+        ensures ok { IfOk result (λ event. Starts self.old.rest (event_of_token event (string_bytes scratch.new)) self.new.rest) }
         ensures text { IfOk result (λ event. TokenBorrowedIfPlain event self.old.rest self.new.rest) }
         ensures scratch { IfOk result (λ event. TokenLeavesScratch event scratch.old scratch.new) }
         ensures invalid { result ≡ Err Error.Invalid → self.old.refused ≡ None
             → (e : punctuation.Step) (r : List ℕ) → Starts self.old.rest e r → ⊥ }
         ensures memory { result ≡ Err Error.Memory → self.old.refused ≡ None → BeginsEscaped self.old.rest }
-        ensures err { IfErr result (λ e. self.new.refused ≡ Some e) }
-        ensures sticky { IfSome self.old.refused (λ e. (result ≡ Err e) × (self.new ≡ self.old)) }
+        ensures first_error { KeepsFirstError self.old.refused result self.new.refused }
+        ensures unchanged { IfSome self.old.refused (λ _. self.new ≡ self.old) }
     {
         self.take_start::<Decoded>(scratch)
     }
@@ -170,14 +169,13 @@ impl<'a> Lexer<'a> {
     #[doc(hidden)]
     #[inline(always)]
     pub fn start_escaped(&mut self, scratch: &mut String) -> Result<Event<'a>>
-        ensures ok { IfOk result (λ event. (self.old.refused ≡ None) × (self.new.refused ≡ None)
-            × (s : List ℕ) × Starts self.old.rest (event_of_token event s) self.new.rest
+        ensures ok { IfOk result (λ event. (s : List ℕ) × Starts self.old.rest (event_of_token event s) self.new.rest
             × SpelledToken escapes event (string_bytes scratch.new) s) }
         ensures text { IfOk result (λ event. TokenBorrowedIfPlain event self.old.rest self.new.rest) }
         ensures invalid { result ≡ Err Error.Invalid → self.old.refused ≡ None
             → (e : punctuation.Step) (r : List ℕ) → Starts self.old.rest e r → ⊥ }
-        ensures err { IfErr result (λ e. self.new.refused ≡ Some e) }
-        ensures sticky { IfSome self.old.refused (λ e. (result ≡ Err e) × (self.new ≡ self.old)) }
+        ensures first_error { KeepsFirstError self.old.refused result self.new.refused }
+        ensures unchanged { IfSome self.old.refused (λ _. self.new ≡ self.old) }
     {
         self.take_start::<Escaped>(scratch)
     }
@@ -186,13 +184,12 @@ impl<'a> Lexer<'a> {
     /// `scratch` has no meaning then.
     #[inline(always)]
     pub fn start_checked(&mut self, scratch: &mut String) -> Result<Event<'a>>
-        ensures ok { IfOk result (λ event. (self.old.refused ≡ None) × (self.new.refused ≡ None)
-            × (s : List ℕ) × Starts self.old.rest (event_of_token event s) self.new.rest) }
+        ensures ok { IfOk result (λ event. (s : List ℕ) × Starts self.old.rest (event_of_token event s) self.new.rest) }
         ensures invalid { result ≡ Err Error.Invalid → self.old.refused ≡ None
             → (e : punctuation.Step) (r : List ℕ) → Starts self.old.rest e r → ⊥ }
         ensures only { IfErr result (λ e. self.old.refused ≡ None → e ≡ Error.Invalid) }
-        ensures err { IfErr result (λ e. self.new.refused ≡ Some e) }
-        ensures sticky { IfSome self.old.refused (λ e. (result ≡ Err e) × (self.new ≡ self.old)) }
+        ensures first_error { KeepsFirstError self.old.refused result self.new.refused }
+        ensures unchanged { IfSome self.old.refused (λ _. self.new ≡ self.old) }
     {
         self.take_start::<Checked>(scratch)
     }
@@ -200,8 +197,7 @@ impl<'a> Lexer<'a> {
     // Takes whitespace and the first token of a value. For a string with a backslash the scratch text gets what `S` says.
     #[inline(always)]
     fn take_start<S: Spelling>(&mut self, scratch: &mut String) -> Result<Event<'a>>
-        ensures ok { IfOk result (λ event. (self.old.refused ≡ None) × (self.new.refused ≡ None)
-            × (s : List ℕ) × Starts self.old.rest (event_of_token event s) self.new.rest
+        ensures ok { IfOk result (λ event. (s : List ℕ) × Starts self.old.rest (event_of_token event s) self.new.rest
             × SpelledToken S.spelled event (string_bytes scratch.new) s) }
         ensures text { IfOk result (λ event. TokenBorrowedIfPlain event self.old.rest self.new.rest) }
         ensures scratch { IfOk result (λ event. TokenLeavesScratch event scratch.old scratch.new) }
@@ -209,8 +205,8 @@ impl<'a> Lexer<'a> {
             → (e : punctuation.Step) (r : List ℕ) → Starts self.old.rest e r → ⊥ }
         ensures memory { result ≡ Err Error.Memory → self.old.refused ≡ None → BeginsEscaped self.old.rest }
         ensures infallible { S.infallible ≡ true → result ≡ Err Error.Memory → self.old.refused ≡ None → ⊥ }
-        ensures err { IfErr result (λ e. self.new.refused ≡ Some e) }
-        ensures sticky { IfSome self.old.refused (λ e. (result ≡ Err e) × (self.new ≡ self.old)) }
+        ensures first_error { KeepsFirstError self.old.refused result self.new.refused }
+        ensures unchanged { IfSome self.old.refused (λ _. self.new ≡ self.old) }
     {
         let (at, first) = after_space(self.text.as_bytes(), self.at);
         match take_token::<S>(self.text, at, first, scratch) {
@@ -227,15 +223,14 @@ impl<'a> Lexer<'a> {
     /// After an error `scratch` may contain anything.
     #[inline(always)]
     pub fn name(&mut self, scratch: &mut String) -> Result<Text<'a>>
-        ensures ok { IfOk result (λ t. (self.old.refused ≡ None) × (self.new.refused ≡ None)
-            × Names self.old.rest (text_of t (string_bytes scratch.new)) self.new.rest) }
+        ensures ok { IfOk result (λ t. Names self.old.rest (text_of t (string_bytes scratch.new)) self.new.rest) }
         ensures text { IfOk result (λ t. NameBorrowedIfPlain t self.old.rest self.new.rest) }
         ensures scratch { IfOk result (λ t. LeavesScratch t scratch.old scratch.new) }
         ensures invalid { result ≡ Err Error.Invalid → self.old.refused ≡ None
             → (n r : List ℕ) → Names self.old.rest n r → ⊥ }
         ensures memory { result ≡ Err Error.Memory → self.old.refused ≡ None → BeginsEscaped self.old.rest }
-        ensures err { IfErr result (λ e. self.new.refused ≡ Some e) }
-        ensures sticky { IfSome self.old.refused (λ e. (result ≡ Err e) × (self.new ≡ self.old)) }
+        ensures first_error { KeepsFirstError self.old.refused result self.new.refused }
+        ensures unchanged { IfSome self.old.refused (λ _. self.new ≡ self.old) }
     {
         self.take_name::<Decoded>(scratch)
     }
@@ -244,13 +239,12 @@ impl<'a> Lexer<'a> {
     /// `scratch` has no meaning then.
     #[inline(always)]
     pub fn name_checked(&mut self, scratch: &mut String) -> Result<Text<'a>>
-        ensures ok { IfOk result (λ t. (self.old.refused ≡ None) × (self.new.refused ≡ None)
-            × (n : List ℕ) × Names self.old.rest n self.new.rest) }
+        ensures ok { IfOk result (λ t. (n : List ℕ) × Names self.old.rest n self.new.rest) }
         ensures invalid { result ≡ Err Error.Invalid → self.old.refused ≡ None
             → (n r : List ℕ) → Names self.old.rest n r → ⊥ }
         ensures only { IfErr result (λ e. self.old.refused ≡ None → e ≡ Error.Invalid) }
-        ensures err { IfErr result (λ e. self.new.refused ≡ Some e) }
-        ensures sticky { IfSome self.old.refused (λ e. (result ≡ Err e) × (self.new ≡ self.old)) }
+        ensures first_error { KeepsFirstError self.old.refused result self.new.refused }
+        ensures unchanged { IfSome self.old.refused (λ _. self.new ≡ self.old) }
     {
         self.take_name::<Checked>(scratch)
     }
@@ -258,8 +252,7 @@ impl<'a> Lexer<'a> {
     // Takes whitespace and the name of a member. For a name with a backslash the scratch text gets what `S` says.
     #[inline(always)]
     fn take_name<S: Spelling>(&mut self, scratch: &mut String) -> Result<Text<'a>>
-        ensures ok { IfOk result (λ t. (self.old.refused ≡ None) × (self.new.refused ≡ None)
-            × (n : List ℕ) × Names self.old.rest (text_of t n) self.new.rest
+        ensures ok { IfOk result (λ t. (n : List ℕ) × Names self.old.rest (text_of t n) self.new.rest
             × SpelledText S.spelled t (string_bytes scratch.new) n) }
         ensures text { IfOk result (λ t. NameBorrowedIfPlain t self.old.rest self.new.rest) }
         ensures scratch { IfOk result (λ t. LeavesScratch t scratch.old scratch.new) }
@@ -267,8 +260,8 @@ impl<'a> Lexer<'a> {
             → (n r : List ℕ) → Names self.old.rest n r → ⊥ }
         ensures memory { result ≡ Err Error.Memory → self.old.refused ≡ None → BeginsEscaped self.old.rest }
         ensures infallible { S.infallible ≡ true → result ≡ Err Error.Memory → self.old.refused ≡ None → ⊥ }
-        ensures err { IfErr result (λ e. self.new.refused ≡ Some e) }
-        ensures sticky { IfSome self.old.refused (λ e. (result ≡ Err e) × (self.new ≡ self.old)) }
+        ensures first_error { KeepsFirstError self.old.refused result self.new.refused }
+        ensures unchanged { IfSome self.old.refused (λ _. self.new ≡ self.old) }
     {
         let (at, first) = after_space(self.text.as_bytes(), self.at);
         match take_name::<S>(self.text, at, first, scratch) {
@@ -286,13 +279,12 @@ impl<'a> Lexer<'a> {
     /// is no closing bracket, and does not take that byte.
     #[inline(always)]
     pub fn after(&mut self, kind: Kind, first: bool) -> Result<After>
-        ensures ok { IfOk result (λ a. (self.old.refused ≡ None) × (self.new.refused ≡ None)
-            × Follows kind first (is_close a) self.old.rest self.new.rest) }
+        ensures ok { IfOk result (λ a. Follows kind first (is_close a) self.old.rest self.new.rest) }
         ensures invalid { result ≡ Err Error.Invalid → self.old.refused ≡ None
             → (a : Bool) (r : List ℕ) → Follows kind first a self.old.rest r → ⊥ }
         ensures only { IfErr result (λ e. self.old.refused ≡ None → e ≡ Error.Invalid) }
-        ensures err { IfErr result (λ e. self.new.refused ≡ Some e) }
-        ensures sticky { IfSome self.old.refused (λ e. (result ≡ Err e) × (self.new ≡ self.old)) }
+        ensures first_error { KeepsFirstError self.old.refused result self.new.refused }
+        ensures unchanged { IfSome self.old.refused (λ _. self.new ≡ self.old) }
     {
         let bytes = self.text.as_bytes();
         let (at, byte) = after_space(bytes, self.at);
@@ -307,12 +299,11 @@ impl<'a> Lexer<'a> {
 
     /// Returns `Invalid` if more than whitespace is left. If it returns `Ok`, it takes nothing.
     pub fn end(&mut self) -> Result<()>
-        ensures ok { IfOk result (λ _. (self.old.refused ≡ None) × (self.new ≡ self.old)
-            × IsWhitespace self.old.rest) }
+        ensures ok { IfOk result (λ _. (self.new ≡ self.old) × IsWhitespace self.old.rest) }
         ensures invalid { result ≡ Err Error.Invalid → self.old.refused ≡ None → IsWhitespace self.old.rest → ⊥ }
         ensures only { IfErr result (λ e. self.old.refused ≡ None → e ≡ Error.Invalid) }
-        ensures err { IfErr result (λ e. self.new.refused ≡ Some e) }
-        ensures sticky { IfSome self.old.refused (λ e. (result ≡ Err e) × (self.new ≡ self.old)) }
+        ensures first_error { KeepsFirstError self.old.refused result self.new.refused }
+        ensures unchanged { IfSome self.old.refused (λ _. self.new ≡ self.old) }
     {
         if let Some(e) = self.refused {
             return Err(e);

@@ -7,7 +7,7 @@ use Rattle.miniserde_model.specs.Lexing.{Follows}
 use Rattle.miniserde_text.specs.Lexer.{is_close}
 use Rattle.miniserde_text.specs.private.Reading.{after_run, punctuation_at}
 use Rattle.miniserde_text.proofs.Steps.{follows, follows_refused}
-use Rattle.miniserde_text.proofs.NothingLeft.{follows_some, unrefused, if_unrefused}
+use Rattle.miniserde_text.proofs.NothingLeft.{follows_some, unrefused, if_unrefused, no_error}
 use Rattle.miniserde_text.proofs.json.lex.Lexer.after.Goals as goal
 
 -- what was taken follows the rest
@@ -30,16 +30,18 @@ invariant_of-self c = if_unrefused _ _ (fresh c)
 
 pub returns-in-Some-clause-ok : goal.returns-in-Some-clause-ok
 returns-in-Some-clause-ok c =
-    let none = fresh c in
-    let rest : c.args.self.now.rest ≡ drop c.self.inside.at c.self.inside.text.now = grind arith in (
-      grind arith,
-      none,
-      subst (λ s. Follows c.args.kind c.args.first (is_close c.in-Some.answer) s
-          (drop c.in-Some.end c.self.inside.text.now)) (sym rest) (taken c),
-    )
+    let rest : c.args.self.now.rest ≡ drop c.self.inside.at c.self.inside.text.now = grind arith in
+    subst (λ s. Follows c.args.kind c.args.first (is_close c.in-Some.answer) s (drop c.in-Some.end c.self.inside.text.now))
+    (sym rest) (taken c)
 
-pub returns-in-Some-clause-sticky : goal.returns-in-Some-clause-sticky
-returns-in-Some-clause-sticky c =
+pub returns-in-Some-clause-first_error : goal.returns-in-Some-clause-first_error
+returns-in-Some-clause-first_error c =
+    let none = fresh c in
+    let before : c.args.self.now.refused ≡ None = grind arith in
+    no_error _ _ _ before none
+
+pub returns-in-Some-clause-unchanged : goal.returns-in-Some-clause-unchanged
+returns-in-Some-clause-unchanged c =
     let none = fresh c in
     let before : c.args.self.now.refused ≡ None = grind arith in
     if_unrefused _ _ before

@@ -9,7 +9,7 @@ use Rattle.miniserde_text.proofs.json.lex.Lexer.end.Goals as goal
 pub returns-then-at-bytes-clause-ok : goal.returns-then-at-bytes-clause-ok
 returns-then-at-bytes-clause-ok c =
     let from : drop c.after_space-at.result.0 c.self.inside.text.now ≡ after_run is_space c.args.self.now.rest = grind arith in
-    (grind arith, refl, blank_of _ c.self.inside.text.now c.after_space-at.result.0 from (grind (arith, c.as_bytes-bytes.ensures.value)))
+    (refl, blank_of _ c.self.inside.text.now c.after_space-at.result.0 from (grind (arith, c.as_bytes-bytes.ensures.value)))
 
 pub returns-clause-invalid : goal.returns-clause-invalid
 returns-clause-invalid c is fresh =

@@ -10,4 +10,4 @@ returns-clause-ok c =
     let rest = c.args.self.now.rest in
     let rest' = c.take_name.new.self.rest in
     IfOk-weaker c.take_name.result _ _
-    (λ t p. (p.0, p.1, subst (λ x. Names rest x rest') (sym (decoded_text t _ p.2 p.4)) p.3)) c.take_name.ensures.ok
+    (λ t p. subst (λ x. Names rest x rest') (sym (decoded_text t _ p.0 p.2)) p.1) c.take_name.ensures.ok

@@ -10,4 +10,4 @@ returns-clause-ok c =
     let rest = c.args.self.now.rest in
     let rest' = c.take_start.new.self.rest in
     IfOk-weaker c.take_start.result _ _
-    (λ e p. (p.0, p.1, subst (λ x. Starts rest x rest') (sym (decoded e _ p.2 p.4)) p.3)) c.take_start.ensures.ok
+    (λ e p. subst (λ x. Starts rest x rest') (sym (decoded e _ p.0 p.2)) p.1) c.take_start.ensures.ok

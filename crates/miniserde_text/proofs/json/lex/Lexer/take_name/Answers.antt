@@ -1,7 +1,7 @@
 -- `name` takes whitespace, a name and its colon, and returns `Invalid` only if no name follows. Each fact of
 -- `take_name`, about the text behind the whitespace, is carried over to the whole text (`names_of`, `names_only`). A name has a byte, so
 -- if one was taken, there was no error (`unrefused`).
-use Rattle.std.proofs.Common.{◌≡◌, ◌∙◌, Err, drop, ap, arith}
+use Rattle.std.proofs.Common.{◌≡◌, ◌∙◌, None, Err, drop, ap, arith}
 use Rattle.miniserde_model.specs.Bytes.{is_space}
 use Rattle.miniserde_model.specs.Value.{Between}
 use Rattle.miniserde_model.specs.Lexing.{BeforeColon}
@@ -11,7 +11,7 @@ use Rattle.miniserde_text.specs.private.Reading.{after_run}
 use Rattle.miniserde_text.proofs.ByteRuns.{stands_of}
 use Rattle.miniserde_text.proofs.Tokens.{backslash_behind}
 use Rattle.miniserde_text.proofs.Names.{names_of, names_only}
-use Rattle.miniserde_text.proofs.NothingLeft.{name_some, unrefused}
+use Rattle.miniserde_text.proofs.NothingLeft.{name_some, unrefused, no_error}
 use Rattle.miniserde_text.proofs.json.lex.Lexer.take_name.Goals as goal
 
 pub returns-in-Ok-clause-ok : goal.returns-in-Ok-clause-ok
@@ -19,10 +19,18 @@ returns-in-Ok-clause-ok g c =
     let from : drop c.after_space-at.result.0 c.self.inside.text.now ≡ after_run is_space c.args.self.now.rest = grind arith in
     let q = c.in-Ok.ensures.ok in
     let named = names_of c.args.self.now.rest (drop c.after_space-at.result.0 c.self.inside.text.now) _ _ from q.1 in
+    (q.0, named, q.2)
+
+pub returns-in-Ok-clause-first_error : goal.returns-in-Ok-clause-first_error
+returns-in-Ok-clause-first_error g c =
+    let from : drop c.after_space-at.result.0 c.self.inside.text.now ≡ after_run is_space c.args.self.now.rest = grind arith in
+    let q = c.in-Ok.ensures.ok in
+    let named = names_of c.args.self.now.rest (drop c.after_space-at.result.0 c.self.inside.text.now) _ _ from q.1 in
     let some = name_some _ _ _ named in
     let rest : c.args.self.now.rest ≡ drop c.self.inside.at c.self.inside.text.now = grind arith in
     let none = unrefused _ _ c.self.invariant (λ gone. some (rest ∙ gone)) in
-    (grind arith, none, q.0, named, q.2)
+    let before : c.args.self.now.refused ≡ None = grind arith in
+    no_error _ _ _ before none
 
 pub returns-in-Ok-clause-text : goal.returns-in-Ok-clause-text
 returns-in-Ok-clause-text g c =

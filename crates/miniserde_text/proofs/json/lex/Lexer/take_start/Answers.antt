@@ -1,12 +1,12 @@
 -- The text at the index that `after_space` returns is the rest without its whitespace. Each clause of `take_token` on
 -- that text gives the clause on the rest by one lemma of `Tokens`. A token has a byte, so if one was taken, there was
 -- no error (`unrefused`).
-use Rattle.std.proofs.Common.{◌≡◌, ◌∙◌, Err, drop, ap, arith}
+use Rattle.std.proofs.Common.{◌≡◌, ◌∙◌, None, Err, drop, ap, arith}
 use Rattle.miniserde_model.specs.Bytes.{is_space}
 use Rattle.miniserde_model.specs.declared.error.Error.TheVariants.{Invalid, Memory}
 use Rattle.miniserde_text.specs.private.Reading.{after_run}
 use Rattle.miniserde_text.proofs.Tokens.{start_takes, start_only, text_behind, backslash_behind}
-use Rattle.miniserde_text.proofs.NothingLeft.{start_some, unrefused}
+use Rattle.miniserde_text.proofs.NothingLeft.{start_some, unrefused, no_error}
 use Rattle.miniserde_text.proofs.json.lex.Lexer.take_start.Goals as goal
 
 pub returns-in-Ok-clause-ok : goal.returns-in-Ok-clause-ok
@@ -14,10 +14,18 @@ returns-in-Ok-clause-ok g c =
     let from : drop c.after_space-at.result.0 c.self.inside.text.now ≡ after_run is_space c.args.self.now.rest = grind arith in
     let q = c.in-Ok.ensures.ok in
     let starts = start_takes c.args.self.now.rest (drop c.after_space-at.result.0 c.self.inside.text.now) _ _ from q.1 in
+    (q.0, starts, q.2)
+
+pub returns-in-Ok-clause-first_error : goal.returns-in-Ok-clause-first_error
+returns-in-Ok-clause-first_error g c =
+    let from : drop c.after_space-at.result.0 c.self.inside.text.now ≡ after_run is_space c.args.self.now.rest = grind arith in
+    let q = c.in-Ok.ensures.ok in
+    let starts = start_takes c.args.self.now.rest (drop c.after_space-at.result.0 c.self.inside.text.now) _ _ from q.1 in
     let some = start_some _ _ _ starts in
     let rest : c.args.self.now.rest ≡ drop c.self.inside.at c.self.inside.text.now = grind arith in
     let none = unrefused _ _ c.self.invariant (λ gone. some (rest ∙ gone)) in
-    (grind arith, none, q.0, starts, q.2)
+    let before : c.args.self.now.refused ≡ None = grind arith in
+    no_error _ _ _ before none
 
 pub returns-in-Ok-clause-text : goal.returns-in-Ok-clause-text
 returns-in-Ok-clause-text g c =
