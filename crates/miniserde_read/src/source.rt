@@ -1,13 +1,13 @@
 //! The source: the rest of a text, from which a type reads itself.
 //! An `Event` is a token that begins a value, a `Step` an event of a value.
-ghost use Rattle.std.specs.Prelude.{◌≡◌, Bool, List, ℕ, None, Some, Ok, Err, IfOk, IfErr, IfSome};
+ghost use Rattle.std.specs.Prelude.{◌≡◌, Bool, List, ℕ, None, Ok, Err, IfOk, IfErr};
 ghost use Rattle.std.specs.Cow.{cow_str_bytes};
 ghost use Rattle.std.specs.String.{string_bytes};
 ghost use Rattle.miniserde_model.specs.Tree.{Members};
 ghost use Rattle.miniserde_model.specs.Step as step;
 ghost use Rattle.miniserde_model.specs.Lexing.{Starts, Names, Follows};
 ghost use Rattle.miniserde_model.specs.Whitespace.{IsWhitespace};
-ghost use Rattle.miniserde_text.specs.Lexer.{event_of_token, text_of, is_close, BeginsEscaped};
+ghost use Rattle.miniserde_text.specs.Lexer.{event_of_token, text_of, is_close, BeginsEscaped, KeepsFirstError};
 ghost use Rattle.miniserde_model.specs.declared.error.Error.{Error};
 ghost use Rattle.miniserde_read.specs.Events.{event_of};
 ghost use Rattle.miniserde_read.specs.Lacking.{EscapedMember};
@@ -77,13 +77,11 @@ impl<'a> Source<'a> {
     /// decoding a string fails to allocate.
     #[inline(always)]
     pub fn token(&mut self) -> Result<Event<'a>>
-        ensures going { IfOk result (λ _. self.new.refused ≡ None) }
         ensures ok { IfOk result (λ e. Starts self.old.rest (event_of_token e self.new.scratch) self.new.rest) }
         ensures invalid { result ≡ Err Error.Invalid → self.old.refused ≡ None
             → (e : step.Step) (r : List ℕ) → Starts self.old.rest e r → ⊥ }
         ensures memory { result ≡ Err Error.Memory → self.old.refused ≡ None → BeginsEscaped self.old.rest }
-        ensures err { IfErr result (λ e. self.new.refused ≡ Some e) }
-        ensures sticky { IfSome self.old.refused (λ e. result ≡ Err e) }
+        ensures first_error { KeepsFirstError self.old.refused result self.new.refused }
     {
         self.lexer.start(&mut self.scratch)
     }
@@ -91,11 +89,11 @@ impl<'a> Source<'a> {
     /// Does what `token` does, but checks a string without decoding it, so it never returns `Memory`.
     #[inline(always)]
     pub(crate) fn token_checked(&mut self) -> Result<Event<'a>>
-        ensures going { IfOk result (λ _. self.new.refused ≡ None) }
         ensures ok { IfOk result (λ e. (s : List ℕ) × Starts self.old.rest (event_of_token e s) self.new.rest) }
         ensures invalid { result ≡ Err Error.Invalid → self.old.refused ≡ None
             → (e : step.Step) (r : List ℕ) → Starts self.old.rest e r → ⊥ }
         ensures only { IfErr result (λ e. self.old.refused ≡ None → e ≡ Error.Invalid) }
+        ensures first_error { KeepsFirstError self.old.refused result self.new.refused }
     {
         self.lexer.start_checked(&mut self.scratch)
     }
@@ -105,13 +103,11 @@ impl<'a> Source<'a> {
     /// due. Returns `Invalid` if neither is next, and `Memory` if decoding the name fails to allocate.
     #[inline(always)]
     pub fn member(&mut self, first: bool) -> Result<Option<Text<'a>>>
-        ensures going { IfOk result (λ _. self.new.refused ≡ None) }
         ensures ok { IfOk result (λ o. NameFollows o self.new.scratch first self.old.rest self.new.rest) }
         ensures invalid { result ≡ Err Error.Invalid → self.old.refused ≡ None
             → (ms : Members) (r : List ℕ) → MembersAt ms first self.old.rest r → ⊥ }
         ensures memory { result ≡ Err Error.Memory → self.old.refused ≡ None → EscapedMember first self.old.rest }
-        ensures err { IfErr result (λ e. self.new.refused ≡ Some e) }
-        ensures sticky { IfSome self.old.refused (λ e. result ≡ Err e) }
+        ensures first_error { KeepsFirstError self.old.refused result self.new.refused }
     {
         match self.lexer.after(Kind::Map, first)? {
             After::Close => Ok(None),
@@ -124,14 +120,12 @@ impl<'a> Source<'a> {
     /// bracket was just taken, so that no comma is due.
     #[inline(always)]
     pub fn after(&mut self, kind: Kind, first: bool) -> Result<After>
-        ensures going { IfOk result (λ _. self.new.refused ≡ None) }
         ensures ok { IfOk result (λ a. Follows kind first (is_close a) self.old.rest self.new.rest) }
         ensures scratch { self.new.scratch ≡ self.old.scratch }
         ensures invalid { result ≡ Err Error.Invalid → self.old.refused ≡ None
             → (a : Bool) (r : List ℕ) → Follows kind first a self.old.rest r → ⊥ }
         ensures only { IfErr result (λ e. self.old.refused ≡ None → e ≡ Error.Invalid) }
-        ensures err { IfErr result (λ e. self.new.refused ≡ Some e) }
-        ensures sticky { IfSome self.old.refused (λ e. result ≡ Err e) }
+        ensures first_error { KeepsFirstError self.old.refused result self.new.refused }
     {
         self.lexer.after(kind, first)
     }
@@ -140,13 +134,11 @@ impl<'a> Source<'a> {
     /// `Memory` if decoding the name fails to allocate.
     #[inline(always)]
     pub fn name(&mut self) -> Result<Text<'a>>
-        ensures going { IfOk result (λ _. self.new.refused ≡ None) }
         ensures ok { IfOk result (λ t. Names self.old.rest (text_of t self.new.scratch) self.new.rest) }
         ensures invalid { result ≡ Err Error.Invalid → self.old.refused ≡ None
             → (n r : List ℕ) → Names self.old.rest n r → ⊥ }
         ensures memory { result ≡ Err Error.Memory → self.old.refused ≡ None → BeginsEscaped self.old.rest }
-        ensures err { IfErr result (λ e. self.new.refused ≡ Some e) }
-        ensures sticky { IfSome self.old.refused (λ e. result ≡ Err e) }
+        ensures first_error { KeepsFirstError self.old.refused result self.new.refused }
     {
         self.lexer.name(&mut self.scratch)
     }
@@ -154,11 +146,11 @@ impl<'a> Source<'a> {
     /// Does what `name` does, but checks the name without decoding it, so it never returns `Memory`.
     #[inline(always)]
     pub(crate) fn name_checked(&mut self) -> Result<Text<'a>>
-        ensures going { IfOk result (λ _. self.new.refused ≡ None) }
         ensures ok { IfOk result (λ _. (n : List ℕ) × Names self.old.rest n self.new.rest) }
         ensures invalid { result ≡ Err Error.Invalid → self.old.refused ≡ None
             → (n r : List ℕ) → Names self.old.rest n r → ⊥ }
         ensures only { IfErr result (λ e. self.old.refused ≡ None → e ≡ Error.Invalid) }
+        ensures first_error { KeepsFirstError self.old.refused result self.new.refused }
     {
         self.lexer.name_checked(&mut self.scratch)
     }
@@ -169,8 +161,7 @@ impl<'a> Source<'a> {
         ensures scratch { self.new.scratch ≡ self.old.scratch }
         ensures invalid { result ≡ Err Error.Invalid → self.old.refused ≡ None → IsWhitespace self.old.rest → ⊥ }
         ensures only { IfErr result (λ e. self.old.refused ≡ None → e ≡ Error.Invalid) }
-        ensures err { IfErr result (λ e. self.new.refused ≡ Some e) }
-        ensures sticky { IfSome self.old.refused (λ e. result ≡ Err e) }
+        ensures first_error { KeepsFirstError self.old.refused result self.new.refused }
     {
         self.lexer.end()
     }

@@ -89,10 +89,10 @@ returns-in_err-end-clause-invalid c = λ e.
 pub returns-clause-ok : goal.returns-clause-ok
 returns-clause-ok c =
     let n : innermost c.loop-kind.reader.stack ≡ None = sym c.top.ensures ∙ c.in_default.is in
-    let t = taken_all c.loop-kind.first n c.in_ok-end.ensures.ok.2 c.loop-kind.invariant.taken in
+    let t = taken_all c.loop-kind.first n c.in_ok-end.ensures.ok.1 c.loop-kind.invariant.taken in
     let d = c.loop-kind.reader.draft in
     let e = c.flush.new.self in
     let r = t.4 in
-    let left = c.left-left.ensures ∙ ap (λ l. length l.rest) c.in_ok-end.ensures.ok.1 in
+    let left = c.left-left.ensures ∙ ap (λ l. length l.rest) c.in_ok-end.ensures.ok.0 in
     let q = c.in_ok-flush.ensures.wrote _ r.bytes r.wrote left in
     (t.0, t.1, t.2, t.3, subst (λ z. Holding e z t.1) (sym q.1) (keep_holding c.in_ok-flush.ensures.only_text r.holding))

@@ -111,7 +111,7 @@ loop-kind-preserved-then-branch g c =
     c.in_ok-first-2.ensures.stack) led in
     record {
       unrefused = c.in_ok-first-2.ensures.unrefused;
-      going = c.in_ok-token.ensures.going;
+      going = c.in_ok-token.ensures.first_error.kept;
       moved = Moved-append c.loop-kind.invariant.moved (Moved-append moved one);
     }
 

@@ -47,7 +47,7 @@ returns-in_err-name-in-Map-clause-invalid g c = λ e.
     c.in-Next.is c.in_ok-after.ensures.ok in
     never_rejects (state_before c.args.first c.args.stack.now c.args.source.now.rest (g.V.Visitor.meaning.view c.args.place.now))
     (name_ends _ _ c.args.kind c.args.first c.requires.inside c.in-Map.is p
-    (c.in_err-name-in-Map.ensures.invalid (cc (w.1, w.2, e)) c.in_ok-after.ensures.going))
+    (c.in_err-name-in-Map.ensures.invalid (cc (w.1, w.2, e)) c.in_ok-after.ensures.first_error.kept))
 
 pub returns-in_err-step-in-Map-clause-invalid : goal.returns-in_err-step-in-Map-clause-invalid
 returns-in_err-step-in-Map-clause-invalid g c = λ e.

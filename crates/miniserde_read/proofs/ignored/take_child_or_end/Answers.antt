@@ -24,7 +24,7 @@ returns-in_err-name_checked-in-Map-clause-invalid c = λ e.
     subst (λ z. Follows c.args.kind c.args.first (is_close z) c.args.source.now.rest c.after.new.self.rest)
     c.in-Next.is c.in_ok-after.ensures.ok in
     name_ends _ _ c.args.kind c.args.first c.requires.inside c.in-Map.is p
-    (c.in_err-name_checked-in-Map.ensures.invalid (cc (w.1, w.2, e)) c.in_ok-after.ensures.going)
+    (c.in_err-name_checked-in-Map.ensures.invalid (cc (w.1, w.2, e)) c.in_ok-after.ensures.first_error.kept)
 
 pub returns-in-Close-clause-reaches : goal.returns-in-Close-clause-reaches
 returns-in-Close-clause-reaches c =

@@ -34,16 +34,16 @@ returns-in_err-text-in-Map-kind-clause-invalid c = λ e.
     let k = c.args.kind in
     let p : Follows k c.args.first false c.skip.new.lexer.rest c.after.new.self.rest =
     subst (λ z. Follows k c.args.first (is_close z) c.skip.new.lexer.rest c.after.new.self.rest) c.in-Next.is
-    c.in_ok-after.ensures.ok.2 in
+    c.in_ok-after.ensures.ok in
     name_ends _ _ k c.args.first c.requires.inside c.in-Map-kind.is
     (follows_behind k c.args.first false _ _ _ c.in_ok-before.ensures.blank p)
     (λ n x q. c.in_err-text-in-Map-kind.ensures.invalid (cc (w.1, w.2, e))
-    (c.in_ok-at-in-Map-kind.ensures.going ∙ c.in_ok-after.ensures.ok.1) n x
+    (c.in_ok-at-in-Map-kind.ensures.going ∙ c.in_ok-after.ensures.first_error.kept) n x
     (names_at _ _ n x c.in_ok-at-in-Map-kind.ensures.blank q))
 
 pub add_member-requires : goal.add_member-requires
 add_member-requires c = name_plain c.in_ok-text-in-Map-kind.text (string_bytes c.name.new.scratch) _ _
-    c.in_ok-text-in-Map-kind.ensures.ok.2 c.in_ok-text-in-Map-kind.ensures.text
+    c.in_ok-text-in-Map-kind.ensures.ok c.in_ok-text-in-Map-kind.ensures.text
 
 pub returns-in-Seq-clause-reads : goal.returns-in-Seq-clause-reads
 returns-in-Seq-clause-reads c =
@@ -55,7 +55,7 @@ returns-in-Seq-clause-reads c =
     let d1 = c.skip.new.self in
     let b = c.in_ok-before.ensures.blank in
     let p : Follows k c.args.first true mid new =
-    subst (λ z. Follows k c.args.first (is_close z) mid new) c.in-Close.is c.in_ok-after.ensures.ok.2 in (
+    subst (λ z. Follows k c.args.first (is_close z) mid new) c.in-Close.is c.in_ok-after.ensures.ok in (
       end_token k ∷ [],
       reads_finish k c.args.first c.requires.inside (follows_behind k c.args.first true old mid new b p) c.pop.ensures,
       subst (λ z. DraftTakes (draft_at (first_or_after c.args.first) old d) (end_token z ∷ []) (draft_at after new d1))
@@ -75,7 +75,7 @@ returns-in_ok-close-in-Map-clause-reads c =
     let d1 = c.skip.new.self in
     let b = c.in_ok-before.ensures.blank in
     let p : Follows k c.args.first true mid new =
-    subst (λ z. Follows k c.args.first (is_close z) mid new) c.in-Close.is c.in_ok-after.ensures.ok.2 in (
+    subst (λ z. Follows k c.args.first (is_close z) mid new) c.in-Close.is c.in_ok-after.ensures.ok in (
       end_token k ∷ [],
       reads_finish k c.args.first c.requires.inside (follows_behind k c.args.first true old mid new b p) c.pop.ensures,
       subst (λ z. DraftTakes (draft_at (first_or_after c.args.first) old d) (end_token z ∷ []) (draft_at after new c.close.new.self))
@@ -96,7 +96,7 @@ returns-in-Seq-kind-clause-reads c =
     let d1 = c.skip.new.self in
     let b = c.in_ok-before.ensures.blank in
     let p : Follows k c.args.first false mid new =
-    subst (λ z. Follows k c.args.first (is_close z) mid new) c.in-Next.is c.in_ok-after.ensures.ok.2 in (
+    subst (λ z. Follows k c.args.first (is_close z) mid new) c.in-Next.is c.in_ok-after.ensures.ok in (
       element ∷ [],
       reads_element k c.args.first c.requires.inside c.in-Seq-kind.is (follows_behind k c.args.first false old mid new b p),
       takes_element {d = d} {d' = d1} c.args.first new
@@ -120,9 +120,9 @@ returns-in_ok-add_member-in-Map-kind-clause-reads c =
     let d2 = c.skip-in-Map-kind.new.self in
     let b = c.in_ok-before.ensures.blank in
     let b2 = c.in_ok-at-in-Map-kind.ensures.blank in
-    let q = c.in_ok-text-in-Map-kind.ensures.ok.2 in
+    let q = c.in_ok-text-in-Map-kind.ensures.ok in
     let p : Follows k c.args.first false mid behind =
-    subst (λ z. Follows k c.args.first (is_close z) mid behind) c.in-Next.is c.in_ok-after.ensures.ok.2 in
+    subst (λ z. Follows k c.args.first (is_close z) mid behind) c.in-Next.is c.in_ok-after.ensures.ok in
     let takes = subst (λ z. (before : List ℕ) (s s' : State) → Wrote d2 at (before ++ comma_before s.first)
     → Holding d2 before s → s.first ≡ c.args.first → TokenStep (name (text_of text z)) s s'
     → Represents c.add_member.new.self new s') c.as_str.ensures.value
@@ -142,7 +142,7 @@ returns-in_ok-add_member-in-Map-kind-clause-reads c =
 pub returns-in_ok-add_member-in-Map-kind-clause-less : goal.returns-in_ok-add_member-in-Map-kind-clause-less
 returns-in_ok-add_member-in-Map-kind-clause-less c =
     let a = blank_less _ _ c.in_ok-before.ensures.blank in
-    let p = follows_less c.args.kind c.args.first (is_close c.in_ok-after.field-0) _ _ c.in_ok-after.ensures.ok.2 in
+    let p = follows_less c.args.kind c.args.first (is_close c.in_ok-after.field-0) _ _ c.in_ok-after.ensures.ok in
     let b = blank_less _ _ c.in_ok-at-in-Map-kind.ensures.blank in
-    let q = stands_less _ _ c.in_ok-text-in-Map-kind.ensures.ok.2 in
+    let q = stands_less _ _ c.in_ok-text-in-Map-kind.ensures.ok in
     (omega (arith, a, p, b, q), λ e. absurd (cc))

@@ -24,7 +24,7 @@ returns-in_err-event-clause-invalid c = λ e.
 pub returns-clause-reads : goal.returns-clause-reads
 returns-clause-reads c =
     let q = c.in_ok-event.ensures.ok in
-    let x = q.2 in
+    let x = q.0 in
     let event = c.in_ok-event.event in
     let e = event_of_token event x in
     let old = c.args.self.now.lexer.rest in
@@ -37,12 +37,12 @@ returns-clause-reads c =
     let k : c.in_ok-opened.opened ≡ opened_kind e = c.in_ok-opened.ensures.opens x in
     let st = c.in_ok-push.ensures.ok ∙ ap (λ z. with_opened z c.args.self.now.stack) k in
     let o = c.is_some.ensures ∙ ap is_some k in
-    let s = q.3 in
+    let s = q.1 in
     let full = starts_behind old mid e new b s in
     let takes : (u u' : State) → Represents d1 mid u → TokenStep (first_token e) u u' → Represents c.token.new.self new u' =
     λ u u' r a. c.in_ok-opened.ensures.takes mid s.0.part new x u u' r
     (record { text = at_once mid new s.0 b.stops; at = c.in_ok-at.ensures.at; end = c.left-end.ensures })
-    (subst (λ z. SpelledToken escapes event z x) (sym v) q.4) (spelled event x mid new s c.in_ok-event.ensures.text) a in (
+    (subst (λ z. SpelledToken escapes event z x) (sym v) q.2) (spelled event x mid new s c.in_ok-event.ensures.text) a in (
       first_token e ∷ [],
       reads_start e c.is_some.result full o st,
       takes_front {d = d} {d1 = d1} e s.0.part c.is_some.result s.0.is_part o

@@ -70,7 +70,7 @@ loop-next-preserved g c =
     sym (same_Some _ _ (put-joined code content value old (g.M.Table.entries c.put.new.self) c.in_ok-key.key
     c.in_ok-value.value (Some c.in_ok-key.key) (Some (value c.in_ok-value.value)) refl refl c.in_ok-put.ensures.put)) in
     record {
-      going = c.in_ok-next-2.ensures.going;
+      going = c.in_ok-next-2.ensures.first_error.kept;
       goes = record {
         first = false;
         before = c.read_due.new.source.rest;

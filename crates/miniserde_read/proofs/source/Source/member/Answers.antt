@@ -19,14 +19,14 @@ returns-in_err-name-in-Next-clause-invalid c = λ e k ms r p.
     let w = err_from_is_err_and c.from_residual-in_err-name-in-Next.result c.from_residual-in_err-name-in-Next.ensures.1 in
     let h = subst (λ z. Follows Map c.args.first false z c.after.new.self.rest) (ap (λ v. v.rest) c.self.view_is)
     (subst (λ z. Follows Map c.args.first (is_close z) c.self.inside.lexer.rest c.after.new.self.rest)
-    c.in-Next.is c.in_ok-after.ensures.ok.2) in
+    c.in-Next.is c.in_ok-after.ensures.ok) in
     let a = members_name ms c.args.first _ c.after.new.self.rest r h p in
-    c.in_err-name-in-Next.ensures.invalid (cc (w.1, w.2, e)) c.in_ok-after.ensures.ok.1 a.0 a.1 a.2
+    c.in_err-name-in-Next.ensures.invalid (cc (w.1, w.2, e)) c.in_ok-after.ensures.first_error.kept a.0 a.1 a.2
 
 pub returns-in_err-name-in-Next-clause-memory : goal.returns-in_err-name-in-Next-clause-memory
 returns-in_err-name-in-Next-clause-memory c = λ e k.
     let w = err_from_is_err_and c.from_residual-in_err-name-in-Next.result c.from_residual-in_err-name-in-Next.ensures.1 in
     let h = subst (λ z. Follows Map c.args.first false z c.after.new.self.rest) (ap (λ v. v.rest) c.self.view_is)
     (subst (λ z. Follows Map c.args.first (is_close z) c.self.inside.lexer.rest c.after.new.self.rest)
-    c.in-Next.is c.in_ok-after.ensures.ok.2) in
-    (c.after.new.self.rest, h, c.in_err-name-in-Next.ensures.memory (cc (w.1, w.2, e)) c.in_ok-after.ensures.ok.1)
+    c.in-Next.is c.in_ok-after.ensures.ok) in
+    (c.after.new.self.rest, h, c.in_err-name-in-Next.ensures.memory (cc (w.1, w.2, e)) c.in_ok-after.ensures.first_error.kept)

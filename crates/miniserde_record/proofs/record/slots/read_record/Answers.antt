@@ -51,7 +51,7 @@ loop-next-smaller-in_ok-next-2 g c = fields_less g.F.Slots.meaning g.S.Record.na
 
 pub loop-next-preserved-in_ok-next-2 : goal.loop-next-preserved-in_ok-next-2
 loop-next-preserved-in_ok-next-2 g c = record {
-  going = c.in_ok-next-2.ensures.going;
+  going = c.in_ok-next-2.ensures.first_error.kept;
   goes = fields_next g.F.Slots.meaning g.S.Record.names
       (rw c.in-Next.is at c.loop-next.invariant.goes) _ _ c.in_ok-name.name c.in_ok-name.ensures.ok _ _ _ c.names.ensures
       (c.as_str.ensures.value ∙ c.take_text-name.ensures.text) c.take_text-name.ensures.rest
@@ -66,7 +66,7 @@ loop-next-smaller g c = fields_less g.F.Slots.meaning g.S.Record.names
 
 pub loop-next-preserved : goal.loop-next-preserved
 loop-next-preserved g c = record {
-  going = c.in_ok-next-2.ensures.going;
+  going = c.in_ok-next-2.ensures.first_error.kept;
   goes = fields_next g.F.Slots.meaning g.S.Record.names
       (rw c.in-Next.is at c.loop-next.invariant.goes) _ _ c.in_ok-name.name c.in_ok-name.ensures.ok _ _ _ c.names.ensures
       (c.as_str.ensures.value ∙ c.take_text-name.ensures.text) c.take_text-name.ensures.rest

@@ -61,7 +61,7 @@ loop-source-preserved c =
     c.in_ok-after.ensures.ok in
     let leaf = sym c.if-branch.false ∙ c.in_ok-begin_child.ensures.opens in
     record {
-      going = c.in_ok-token.ensures.going;
+      going = c.in_ok-token.ensures.first_error.kept;
       unnamed = pending_begun _ _ _ c.in_ok-begin_child.ensures.ok;
       inside = leaf_stays _ _ _ _ c.in_ok-begin_child.ensures.ok leaf ∙ c.loop-source.invariant.inside;
       shorter = omega (

@@ -37,7 +37,7 @@ loop-next-smaller g c =
 
 pub loop-next-preserved : goal.loop-next-preserved
 loop-next-preserved g c = record {
-  going = c.in_ok-next-2.ensures.going;
+  going = c.in_ok-next-2.ensures.first_error.kept;
   goes = record {
     first = false;
     before = c.read_due.new.source.rest;
