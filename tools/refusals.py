@@ -45,8 +45,8 @@ KEYWORDS = set(
 
 # Types that are not read, each with what to write.
 UNREAD = {
-    "f32 f64": "`miniserde::json::Number` keeps a fraction as its text; reckon with an integer of a smaller unit",
-    "i128 u128": "an integer of 64 bits, or `miniserde::json::Number`, which keeps any number",
+    "f32 f64": "`miniserde::json::Number` keeps a fraction as its text, and has no `Clone` and no `PartialEq`; to reckon, take an integer of a smaller unit",
+    "i128 u128": "an integer of 64 bits, or `miniserde::json::Number`, which keeps any number, and has no `Clone` and no `PartialEq`",
     "char str OsString Path PathBuf": "`String`",
     "BTreeSet BinaryHeap HashSet LinkedList": "`Vec`",
     "Arc Cell Mutex Rc RefCell": "the type in it, or a `Box` of that",

@@ -105,6 +105,7 @@ impl RoundTrip for Entry {
 #[cfg(test)]
 mod tests {
     use super::Entry;
+    use crate::spans::Span;
     use test_tables::{Wrong, expect_round_trip};
 
     #[test]
@@ -112,6 +113,13 @@ mod tests {
         expect_round_trip::<Entry>(
             rt.alloc(),
             " [ 7, \"a\\/\" ]  => [7,\"a/\"]\n[4294967295,\"\"] => same\n[7]\n[\"a\",7]\n[4294967296,\"\"]\n{}",
+        )
+    }
+    #[test]
+    fn a_span_round_trips(rt: HostRuntime) -> Result<(), Wrong> {
+        expect_round_trip::<Span>(
+            rt.alloc(),
+            " [ 3, 7 ]  => [3,7]\n[7,18446744073709551615] => same\n[7]\n[3,-1]\n[3,7,8]\n{}",
         )
     }
 }

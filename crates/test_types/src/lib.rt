@@ -44,6 +44,8 @@ mod shapes;
 #[cfg(test)]
 mod slices;
 #[cfg(test)]
+mod spans;
+#[cfg(test)]
 mod stable;
 #[cfg(test)]
 mod strings;
