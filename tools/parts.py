@@ -162,7 +162,7 @@ def check_defaults(found):
             if part.default is not None and not fits_default(part.of, part.default, enums):
                 instead = "make the field an `Option`"
                 if part.of in enums:
-                    instead = f"write one of its variants, as `default {enums[part.of][0]}`"
+                    instead = f"write one of its variants, as `// default {enums[part.of][0]}`"
                 elif fits_default(part.of, "", enums):
                     instead += ", or write the value that it has"
                 yield f"line {part.line}: `{f'default {part.default}'.strip()}` gives no value of `{part.of}`: {instead}"

@@ -120,6 +120,15 @@ def check_param(param, bare, line):
         raise Refused(f"line {line}: the name of a parameter begins with a capital letter and has no `_`, as `T`: {bare}")
 
 
+def documents_within(found, documents):
+    """The types of the file that have a document in them, each with its name."""
+    inner = {}
+    for it in found * len(found):
+        names = [name for part in it.parts for name in re.findall(rf"(?:(?<![\w:])|(?<=json::)){NAME}", part.of)]
+        inner |= {it.name: inner.get(name, name) for name in names[::-1] if name in documents | inner.keys()}
+    return inner
+
+
 def check_derives(it, found, uses):
     """Refuses a `Default`, which nothing derives, and derives around what lacks them, as a `Clone`, since a copy may fail to allocate."""
     documents = {"Array", "Document", "Number", "Object", "Unique", "Value"} - names_beside("miniserde(?:_core)?::json", found, uses)
@@ -128,22 +137,25 @@ def check_derives(it, found, uses):
         yield f"line {it.line}: `Default` is not derived: leave it out, and mark the fields that may be missing: {it.shown}"
     for part in it.parts:
         if any(re.fullmatch(r"#\[\s*default\s*\]", above) for above in part.above):
-            yield f"line {part.line}: `#[default]` belongs to `Default`, which is not derived: leave it out: {part.name}"
-        name = next((each for each in re.findall(rf"(?:(?<![\w:])|(?<=json::)){NAME}", part.of) if each in documents), None)
-        if name and lacking:
-            yield f"line {part.line}: `{name}` has no {' and no '.join(lacking)}: leave {' and '.join(lacking)} out of the derives of `{it.shown}`: {part.of}"
+            yield f"line {part.line}: `#[default]` belongs to `Default`, which is not derived: leave it out, and write `// default {part.name}` behind each field that may be missing: {part.name}"
+    inner, variants = documents_within(found, documents), {each.name: each.parts for each in found if each.variant}
+    for part in [each for part in it.parts for each in variants.get(part.of.split("<")[0], [part])] if lacking else []:
+        name = next((each for each in re.findall(rf"(?:(?<![\w:])|(?<=json::)){NAME}", part.of) if each in documents | inner.keys()), None)
+        if name:
+            within = "" if name in documents else f", with a `{inner[name]}` in it,"
+            yield f"line {part.line}: `{name}`{within} has no {' and no '.join(lacking)}: leave {' and '.join(lacking)} out of the derives of `{it.shown}`: {part.of}"
 
 
 def check_keys(found):
-    """Refuses a map whose key is a type of the file without the word `key`."""
+    """Refuses a map whose key is a type of the file without the word `key`, or one that has parts."""
     plain = {it.name: it for it in found if "key" not in it.words}
     for it in found:
         for part in it.parts:
-            for name in re.findall(rf"\b(?:BTreeMap|HashMap)<\s*({NAME})\s*,", part.of):
-                if name in plain and plain[name].kind == "newtype":
-                    yield f"line {part.line}: a map's key is a newtype with the word `key`: mark `{name}` with `// key`: {part.of}"
-                elif name in plain:
-                    yield f"line {part.line}: `{name}` is no key: write `String`, a newtype with `key`, or a key by hand (docs/BY-HAND.md): {part.of}"
+            for key in [given[0] for name, given in applied(part.of) if name in ("BTreeMap", "HashMap")]:
+                if key in plain and plain[key].kind == "newtype":
+                    yield f"line {part.line}: a map's key is a newtype with the word `key`: mark `{key}` with `// key`: {part.of}"
+                elif key in plain or re.match(r"[(\[]|(?:Box|BTreeMap|HashMap|Option|Vec|VecDeque)<", key):
+                    yield f"line {part.line}: `{key}` is no key: write `String`, a newtype with `key`, or a key by hand (docs/BY-HAND.md): {part.of}"
 
 
 def check_params(it, known):

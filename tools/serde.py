@@ -10,14 +10,16 @@ USE = re.compile(r"(?:pub )?use serde(?:_derive)?\b")
 INSTEAD = {
     "borrow": "a value owns its text, so leave the attribute out",
     "content": "write a struct with the kind as an enum without data, and the data in `Option`s",
+    "bound": "each impl has the bounds that it needs, so leave the attribute out",
     "deserialize_with": "write a newtype with the word `text`",
-    "flatten": "write the fields of the inner struct",
+    "flatten": "write the fields of the inner struct; to keep members of any name, read the text once more as a `miniserde::json::Value` (docs/USES.md)",
+    "from": "write a newtype, as `struct Name(u8);`, and convert where it is used",
     "other": "an unknown variant is invalid: write a struct with the kind as a `String`",
     "rename_all_fields": "write `rename` above the fields",
     "serialize_with": "write a newtype with the word `text`",
     "skip": "leave the field out",
     "skip_deserializing": "make the field an `Option`",
-    "skip_serializing": "leave the field out",
+    "skip_serializing": "write a struct of its own for what is written, without the field",
     "untagged": "write a struct with the data of each variant in an `Option`, or keep it as a `miniserde::json::Document`",
     "with": "write a newtype with the word `text`",
 }
@@ -76,7 +78,7 @@ def word_for(part, of, inner, line):
     if "(" in part:
         raise Refused(f'line {line}: what is written is what is read: write `{name} = ".."`: {part}')
     if name == "default" and value:
-        raise Refused(f"line {line}: no function gives a missing field its value: write `// default VALUE` behind the field, or make it an `Option`: {part}")
+        raise Refused(f"line {line}: no function gives a missing field its value: leave this out, and write `// default VALUE` behind the field, or make it an `Option`: {part}")
     if name == "skip_serializing_if" and value != '"Option::is_none"':
         raise Refused(f"line {line}: a field that is left out is an `Option` that is `None`: make it one, with `Option::is_none`, or leave this out, and the empty value is written: {part}")
     if name in ("into", "try_from") and value.strip('"') != inner:

@@ -1,5 +1,5 @@
 -- Orders, and what becomes of them.
-use Rattle.std.specs.Prelude.{ℕ, ◌+◌, ◌-◌, ◌^◌, min, true}
+use Rattle.std.specs.Prelude.{ℕ, ◌+◌, ◌-◌, ◌^◌, min, true, nat_lt, if◌then◌else◌}
 use Rattle.examples.specs.declared.order.Order.{Order}
 
 -- the order, paid
@@ -13,3 +13,7 @@ one_more_of v = record v { quantity = min (v.quantity + 1) (2 ^ 32 - 1) }
 -- how many pieces the order is of
 abbrev pub quantity_of : Order → ℕ
 quantity_of v = v.quantity
+
+-- the order, paid if it is of fewer than ten pieces
+abbrev pub paid_if_small : Order → Order
+paid_if_small v = if nat_lt v.quantity 10 then settled_of v else v

@@ -2,7 +2,7 @@
 
 use examples::order::Order;
 use examples::page::Page;
-use examples::pages::{count_of, next_of};
+use examples::pages::{count_of, next_of, pay_small};
 use examples::service::Service;
 use miniserde::FromJson;
 use miniserde::error::{Error, Result};
@@ -76,5 +76,27 @@ fn a_page_has_a_count_and_a_next_one(rt: HostRuntime) -> std::result::Result<(),
             Err(Error::Invalid)
         ),
         "no bytes",
+    )
+}
+
+const SMALL_AND_LARGE: &str = r#"{"items":[{"id":1,"quantity":9,"paid":false},{"id":2,"quantity":10,"paid":false},{"id":3,"quantity":20,"paid":true}],"next":"b"}"#;
+
+const SMALL_PAID: &str = r#"{"items":[{"id":1,"quantity":9,"paid":true,"note":null},{"id":2,"quantity":10,"paid":false,"note":null},{"id":3,"quantity":20,"paid":true,"note":null}],"next":"b"}"#;
+
+/// Returns whether the small orders of a text are paid as they should be.
+fn are_paid(alloc: Global, text: &str, expected: &str) -> Result<bool> {
+    Ok(pay_small(alloc, text)?.as_str() == expected)
+}
+
+#[test]
+fn the_small_orders_of_a_page_are_paid(rt: HostRuntime) -> std::result::Result<(), Wrong> {
+    let alloc = rt.alloc();
+    expect_ok(
+        are_paid(alloc, SMALL_AND_LARGE, SMALL_PAID),
+        "small and large",
+    )?;
+    expect(
+        matches!(pay_small(alloc, "[]"), Err(Error::Invalid)),
+        "no page",
     )
 }
