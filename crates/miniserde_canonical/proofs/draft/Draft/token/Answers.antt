@@ -11,7 +11,7 @@ use Rattle.miniserde_canonical.specs.private.Plain.{PartIsToken}
 use Rattle.miniserde_canonical.specs.private.States.{TokenStep, AddsBytes}
 use Rattle.miniserde_canonical.specs.private.Drafts.{Wrote}
 use Rattle.miniserde_canonical.proofs.DraftSteps.{holding_opened, rewritten, stays}
-use Rattle.miniserde_canonical.proofs.InputRuns.{wrote_on, as_negative, as_it_is, string_stands, decimal_zero}
+use Rattle.miniserde_canonical.proofs.InputRuns.{wrote_on, rewound, as_negative, as_it_is, string_stands, decimal_zero}
 use Rattle.miniserde_canonical.proofs.draft.Draft.token.Goals as goal
 
 pub returns-then-n-ne0-clause-takes : goal.returns-then-n-ne0-clause-takes
@@ -28,7 +28,7 @@ returns-in_ok-push-in-Negative-clause-takes c = λ rest part rest' x s s' r take
     let k = c.in_ok-flush-in-Negative.ensures in
     let q = k.wrote rest r.bytes r.wrote takes.at in
     let same = k.only_text in
-    rewritten part (48 ∷ []) (subst (λ z. AddsBytes z s s') (ap (λ z. compact (norm_neg z)) zero ∙ decimal_zero) a.0) r q.0
+    rewritten (48 ∷ []) (subst (λ z. AddsBytes z s s') (ap (λ z. compact (norm_neg z)) zero ∙ decimal_zero) a.0) r
     (record {
       splices = same.splices;
       groups = same.groups;
@@ -37,12 +37,12 @@ returns-in_ok-push-in-Negative-clause-takes c = λ rest part rest' x s s' r take
       opened = same.opened;
       distinct = same.distinct;
     })
-    takes.text
+    (rewound part q.0 takes.text
     (record {
       input = refl;
       left = takes.end;
       text_is = c.in_ok-push-in-Negative.ensures.items ∙ ap (λ z. z ++ 48 ∷ []) q.1;
-    })
+    }))
 
 pub returns-in_ok-put_quoted-in-Str-clause-takes : goal.returns-in_ok-put_quoted-in-Str-clause-takes
 returns-in_ok-put_quoted-in-Str-clause-takes c = λ rest part rest' x s s' r takes w p h.
@@ -55,7 +55,7 @@ returns-in_ok-put_quoted-in-Str-clause-takes c = λ rest part rest' x s s' r tak
     ap (λ z. 34 ∷ (z ++ 34 ∷ [])) inside ∙ sym (quoted_escapes x) in
     let q = k.wrote rest r.bytes r.wrote takes.at in
     let same = k.only_text in
-    rewritten part (string_text x) (subst (λ z. AddsBytes (string_text (text_of z x)) s s') c.in-Scratch.is a.0) r q.0
+    rewritten (string_text x) (subst (λ z. AddsBytes (string_text (text_of z x)) s s') c.in-Scratch.is a.0) r
     (record {
       splices = same.splices;
       groups = same.groups;
@@ -64,13 +64,13 @@ returns-in_ok-put_quoted-in-Str-clause-takes c = λ rest part rest' x s s' r tak
       opened = same.opened;
       distinct = same.distinct;
     })
-    takes.text
+    (rewound part q.0 takes.text
     (record {
       input = refl;
       left = takes.end;
       text_is = c.in_ok-put_quoted-in-Str.ensures ∙ ap (λ z. c.flush-in-Scratch.new.self.out.bytes.items ++ z) text
           ∙ ap (λ z. z ++ string_text x) q.1;
-    })
+    }))
 
 pub returns-in_default-text-clause-takes : goal.returns-in_default-text-clause-takes
 returns-in_default-text-clause-takes c = λ rest part rest' x s s' r takes w p h.
