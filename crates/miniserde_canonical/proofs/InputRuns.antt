@@ -77,7 +77,7 @@ flushed {d = d} {d' = d'} f = λ rest bs w e.
     let to : f.to ≡ f.from + length w.run = omega (arith, f.from_is, f.to_is, long, w.left, tail, e) in
     let within : f.to ≤ length d.input.now = omega (arith, f.to_is) in
     let is : f.piece ≡ w.run = f.is_part (omega (arith, to)) within
-    ∙ between_mid f.from f.to d.input.now w.front w.run rest w.input from to in
+    ∙ between_mid f.from f.to w.front _ w.input from to in
     let out : d'.out.bytes.items ≡ bs = f.appended ∙ ap (λ z. d.out.bytes.items ++ z) is ∙ w.text in
     (rewound [] w refl (record { input = f.input; left = e; text_is = out }), out)
 

@@ -46,8 +46,8 @@ own_first {n = n} [] {e = e} [] groups {out = out} last end i o =
       omega (arith, i.splices, o.begins_splices, many),
       omega (arith, i.splices),
     )
-    (between_end n.point.bytes end.bytes bs o.before o.behind o.bytes o.begins i.bytes)
-    (between_end n.point.splices end.splices hs o.splices_before o.splices_behind o.splices o.begins_splices i.splices) o.is_behind
+    (between_end n.point.bytes end.bytes o.before o.bytes o.begins i.bytes)
+    (between_end n.point.splices end.splices o.splices_before o.splices o.begins_splices i.splices) o.is_behind
 own_first {n = n} (m ∷ ns) {e = e} (f ∷ es) groups {out = out} last end i o =
     let bs = out.bytes.items in
     let hs = out.splices.items in
@@ -66,10 +66,8 @@ own_first {n = n} (m ∷ ns) {e = e} (f ∷ es) groups {out = out} last end i o 
       omega (arith, r.begins_splices),
       omega (arith, r.begins_splices, o.begins_splices, many, length-append r.splices_before r.splices_behind),
     )
-    (between_mid n.point.bytes (m.point.bytes - length (comma_before m.first)) bs o.before r.before
-    (comma_before f.first ++ r.behind) text o.begins wide)
-    (between_mid n.point.splices m.point.splices hs o.splices_before r.splices_before r.splices_behind splices o.begins_splices
-    r.begins_splices) r.is_before
+    (between_mid n.point.bytes (m.point.bytes - length (comma_before m.first)) o.before _ text o.begins wide)
+    (between_mid n.point.splices m.point.splices o.splices_before _ splices o.begins_splices r.begins_splices) r.is_before
 own_first [] (f ∷ es) groups last end i o = absurd o.is_behind
 own_first (m ∷ ns) [] groups last end i o = absurd o.is_behind
 
