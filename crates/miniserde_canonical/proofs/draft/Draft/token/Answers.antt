@@ -11,7 +11,7 @@ use Rattle.miniserde_canonical.specs.private.Plain.{PartIsToken}
 use Rattle.miniserde_canonical.specs.private.States.{TokenStep, AddsBytes}
 use Rattle.miniserde_canonical.specs.private.Drafts.{Wrote}
 use Rattle.miniserde_canonical.proofs.DraftSteps.{holding_opened, rewritten, stays}
-use Rattle.miniserde_canonical.proofs.InputRuns.{wrote_on, rewound, as_negative, as_it_is, string_stands, decimal_zero}
+use Rattle.miniserde_canonical.proofs.InputRuns.{wrote_on, rewound, as_negative, IsOtherToken, as_it_is, string_stands, decimal_zero}
 use Rattle.miniserde_canonical.proofs.draft.Draft.token.Goals as goal
 
 pub returns-then-n-ne0-clause-takes : goal.returns-then-n-ne0-clause-takes
@@ -77,7 +77,7 @@ returns-in_default-text-clause-takes c = λ rest part rest' x s s' r takes w p h
     let q = subst (λ z. PartIsToken z x part) c.in-Str.is p in
     let a = subst (λ z. TokenStep (first_token (event_of_token z x)) s s') c.in-Str.is h in
     stays part rest'
-    (string_stands c.in-Str.text x part s s' c.in_default-text.not-Scratch q.1 a.0) r takes.text
+    (subst (λ z. AddsBytes z s s') (string_stands c.in-Str.text x part c.in_default-text.not-Scratch q.1) a.0) r takes.text
 
 pub returns-in-SeqStart-clause-takes : goal.returns-in-SeqStart-clause-takes
 returns-in-SeqStart-clause-takes c = λ rest part rest' x s s' r takes w p h.
@@ -103,5 +103,9 @@ returns-in-MapStart-clause-takes c = λ rest part rest' x s s' r takes w p h.
 pub returns-in_default-clause-takes : goal.returns-in_default-clause-takes
 returns-in_default-clause-takes c = λ rest part rest' x s s' r takes w p h.
     let n = c.in_default in
-    stays part rest'
-    (as_it_is c.args.token x part s s' p n.not-Negative n.not-Str n.not-MapStart h) r takes.text
+    let other : IsOtherToken c.args.token = record {
+      not_negative = n.not-Negative;
+      not_string = n.not-Str;
+      not_object = n.not-MapStart;
+    } in
+    stays part rest' (as_it_is c.args.token x part other p s s' h) r takes.text
