@@ -5,6 +5,7 @@ use Rattle.std.proofs.Common.{take, drop, refl, sym, ap, ap₂, subst, ◌∙◌
 use Rattle.std.proofs.Common.{length-append}
 use Rattle.std.proofs.Math.Seq.{take-append_seam}
 use Rattle.std.proofs.lemmas.List.{length-drop, drop_all, take_all}
+use Rattle.miniserde_model.specs.Ascii.{begin_object, name_separator}
 use Rattle.miniserde_model.specs.Compact.{string_text}
 use Rattle.miniserde_model.specs.Normal.{norm_members, Rise}
 use Rattle.miniserde_model.specs.Tokens.{name, object, comma_before}
@@ -100,10 +101,10 @@ as_many_entries {d = d} {bs = bs} {s = s} r =
 -- with `{` after its bytes and its number of members in `opened`, a draft holds the state with one more object
 pub holding_opened : {d d' : Draft} {bs : List ℕ} {s s' : State} → KeepsGroups d d' → d'.members.items ≡ d.members.items
     → d'.opened.items ≡ d.opened.items ++ length d.members.items ∷ [] → TokenStep object s s' → Holding d bs s
-    → Holding d' (bs ++ 123 ∷ []) s'
+    → Holding d' (bs ++ begin_object ∷ []) s'
 holding_opened {d = d} {d' = d'} {bs = bs} {s = s} {s' = s'} k m o a r = record {
   chain = rw (m, k.splices, a.1, a.0) (chain_stays _ _ _ _ (groups_same k.groups k.groups_splices)
-      (chain_plain d.members.items s.entries d.groups (text_from text_begin bs d.out.splices.items) s.last (123 ∷ []) r.chain));
+      (chain_plain d.members.items s.entries d.groups (text_from text_begin bs d.out.splices.items) s.last (begin_object ∷ []) r.chain));
   good = still_good k r.good;
   opened = o ∙ ap₂ (λ (x : List ℕ) (y : ℕ). x ++ y ∷ []) r.opened (as_many_entries r) ∙ sym a.2;
   distinct = k.distinct ∙ r.distinct ∙ sym a.3;
@@ -115,11 +116,11 @@ pub holding_begun : {d d' : Draft} {bs : List ℕ} {s s' : State} (n : Member) (
     → BeginsBehind n (record { earlier_text = s.last; first = s.first; name = x })
     (text_from text_begin bs d.out.splices.items)
     → TokenStep (name x) s s' → Holding d bs s
-    → Holding d' ((bs ++ comma_before s.first) ++ (string_text x ++ 58 ∷ [])) s'
+    → Holding d' ((bs ++ comma_before s.first) ++ (string_text x ++ name_separator ∷ [])) s'
 holding_begun {d = d} {d' = d'} {bs = bs} {s = s} {s' = s'} n name_text k m o begins a r =
     let ns = d.members.items ++ n ∷ [] in
     let y : MemberEntry = record { earlier_text = s.last; first = s.first; name = name_text } in
-    let x = string_text name_text ++ 58 ∷ [] in
+    let x = string_text name_text ++ name_separator ∷ [] in
     let cs = bs ++ comma_before s.first in
     let begun : Chain ns (s.entries ++ y ∷ []) d.groups (text_from text_begin cs d.out.splices.items) [] =
     chain_begin d.members.items s.entries d.groups (text_from text_begin bs d.out.splices.items) r.chain begins in

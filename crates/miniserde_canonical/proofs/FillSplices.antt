@@ -286,7 +286,8 @@ fill_goes groups text {ks = ks} {at = at} {i = i} {splice = splice} {out = out} 
     let all : bs ≡ take at bs ++ (a.before ++ a.behind) = sym (take-append-drop at bs) ∙ ap (λ z. take at bs ++ z) a.bytes in
     let long = ap length all ∙ length-append (take at bs) (a.before ++ a.behind) in
     let within : splice.at ≤ length bs = omega (arith, a.point, long, front, length-append a.before a.behind) in
-    let bytes : f.part ≡ a.before = f.is_part (omega (arith, a.point)) within ∙ between_mid at splice.at (take at bs) _ all (sym front) a.point in
+    let bytes : f.part ≡ a.before = f.is_part (omega (arith, a.point)) within
+    ∙ between_mid at splice.at (take at bs) _ all (sym front) a.point in
     let behind : drop splice.at bs ≡ a.behind = let far : splice.at ≡ length (take at bs ++ a.before) =
     omega (arith, a.point, front, length-append (take at bs) a.before) in
     ap₂ drop far (all ∙ sym (append_assoc (take at bs) a.before a.behind)) ∙ drop-append_seam

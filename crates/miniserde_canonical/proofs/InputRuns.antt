@@ -4,6 +4,7 @@ use Rattle.std.proofs.Common.{◌≡◌, ◌≤◌, ◌-◌, ◌+◌, ℕ, ℤ, 
 use Rattle.std.proofs.Common.{length, refl, sym, ap, subst, ◌∙◌, append_assoc, append-nil, arith, length-append}
 use Rattle.std.proofs.lemmas.Int.{ints}
 use Rattle.std.proofs.lemmas.Fmt.{decimal_digit}
+use Rattle.miniserde_model.specs.Ascii.{digit_0}
 use Rattle.miniserde_model.specs.Tree.{neg, num}
 use Rattle.miniserde_model.specs.Compact.{compact, string_text}
 use Rattle.miniserde_model.specs.Number.{IsNumber}
@@ -124,5 +125,5 @@ string_stands (Input x) scratch part n p = sym p
 string_stands Scratch scratch part n p = absurd (n refl)
 
 -- the decimal text of 0 is `0`
-pub decimal_zero : decimal 0 ≡ 48 ∷ []
+pub decimal_zero : decimal 0 ≡ digit_0 ∷ []
 decimal_zero = decimal_digit 0 (omega arith)

@@ -7,6 +7,7 @@ use Rattle.std.proofs.Math.Bool.{and-true, and_assoc}
 use Rattle.std.proofs.Math.Seq.{take-append_seam, drop-append_seam}
 use Rattle.std.proofs.lemmas.Bool.{eq-eqb}
 use Rattle.std.specs.Ordering.{match_ordering}
+use Rattle.miniserde_model.specs.Ascii.{begin_array, end_array, begin_object, end_object, name_separator, value_separator}
 use Rattle.miniserde_model.specs.Tree.{Tree, str, list, members, Trees, no_trees}
 use Rattle.miniserde_model.specs.Tree.{tree, Members, no_members, member}
 use Rattle.miniserde_model.specs.Compact.{compact, compact_children, compact_more, compact_members, compact_more_members, string_text}
@@ -63,7 +64,7 @@ mapped (member n t ms) = member n (norm t) (mapped ms)
 
 -- the text of one member: its name, a colon and the compact text of its tree
 abbrev row : List ℕ → Tree → List ℕ
-row n t = string_text n ++ 58 ∷ compact t
+row n t = string_text n ++ name_separator ∷ compact t
 
 -- the members ms, each with its own text (`row`) as a string in the place of its tree, as `entry_members` has them
 abbrev rows_of : Members → Members
@@ -100,7 +101,7 @@ lines_cons n t ms s {u = u} {s' = s'} a w l =
     let g = w.0 in
     let e : MemberEntry = record { earlier_text = s.last; first = s.first; name = n } in
     let text : u.last ≡ row n (norm t) = g.last ∙ ap (λ z. z ++ compact (norm t)) a.1 ∙ append_assoc (string_text n)
-    (58 ∷ []) (compact (norm t)) in
+    (name_separator ∷ []) (compact (norm t)) in
     record {
       added = e ∷ l.added;
       entries = l.entries ∙ ap (λ z. z ++ l.added) (g.entries ∙ a.0) ∙ append_assoc s.entries (e ∷ []) l.added;
@@ -150,7 +151,7 @@ mutual
 
   spelled_more : (ms : Members) → joined_texts false (rows_of ms) ≡ compact_more_members ms
   spelled_more no_members = refl
-  spelled_more (member n t ms) = ap (λ z. 44 ∷ (row n t ++ z)) (spelled_more ms)
+  spelled_more (member n t ms) = ap (λ z. value_separator ∷ (row n t ++ z)) (spelled_more ms)
 
 rows_above : (n : List ℕ) (ms : Members) → BeginsAbove n (rows_of ms) → BeginsAbove n ms
 rows_above n no_members b = tt
@@ -228,7 +229,7 @@ made es ms l s s' h (inl a) = made_same es ms l s s' h a
 made es ms l s s' h (inr a) = made_sorted es ms l s s' h a
 
 object_grows : {m u : State} (ms : Members) (s k : State) → TokenStep object s m → Lines m u ms → Closes u k
-    → Grows s k (123 ∷ compact_members (norm_members ms)) (names_distinct_in_members ms)
+    → Grows s k (begin_object ∷ compact_members (norm_members ms)) (names_distinct_in_members ms)
 object_grows {m = m} {u = u} ms s k a l c =
     let named : u.entries ≡ s.entries ++ l.added = l.entries ∙ ap (λ z. z ++ l.added) a.1 in
     let within : length s.entries ≤ length u.entries = omega (arith, ap length named, length-append s.entries l.added) in
@@ -238,7 +239,7 @@ object_grows {m = m} {u = u} ms s k a l c =
     let r : Arranged l.added u k = subst (λ z. Arranged z u k) own d.2 in
     let x = made l.added ms m.last u k lays r in
     record {
-      last = x.last ∙ ap (λ z. z ++ compact_members (norm_members ms)) a.0 ∙ append_assoc s.last (123 ∷ [])
+      last = x.last ∙ ap (λ z. z ++ compact_members (norm_members ms)) a.0 ∙ append_assoc s.last (begin_object ∷ [])
           (compact_members (norm_members ms));
       entries = d.1 ∙ ap (take (length s.entries)) named ∙ take-append_seam s.entries l.added;
       opened = d.0;
@@ -255,7 +256,7 @@ children_text f (tree t ts) = comma_before f ++ (compact t ++ children_text fals
 
 more_text : (ts : Trees) → children_text false ts ≡ compact_more ts
 more_text no_trees = refl
-more_text (tree t ts) = ap (λ z. 44 ∷ (compact t ++ z)) (more_text ts)
+more_text (tree t ts) = ap (λ z. value_separator ∷ (compact t ++ z)) (more_text ts)
 
 first_text : (f : Bool) (ts : Trees) → f ≡ true → children_text f ts ≡ compact_children ts
 first_text true no_trees e = refl
@@ -272,7 +273,7 @@ mutual
       let m = r.0 in
       let t = children_grow ts (array_end ∷ ks) m s' r.2 in
       let e = t.2 in
-      let begun : Grows s m (91 ∷ []) true =
+      let begun : Grows s m (begin_array ∷ []) true =
       record {
         last = r.1.0.0;
         entries = r.1.0.1;
@@ -280,7 +281,7 @@ mutual
         distinct =
             r.1.0.3 ∙ sym (and-true s.distinct);
       } in
-      let closed : Grows t.0 e.0 (93 ∷ []) true =
+      let closed : Grows t.0 e.0 (end_array ∷ []) true =
       record {
         last = e.1.0.0;
         entries = e.1.0.1;
@@ -297,7 +298,7 @@ mutual
       let t = members_grow ms (object_end ∷ ks) m s' r.2 in
       let e = t.2 in
       let k = e.1.0 in
-      let closed : Grows k e.0 (125 ∷ []) true =
+      let closed : Grows k e.0 (end_object ∷ []) true =
       record {
         last = e.1.2.0;
         entries = e.1.2.1;

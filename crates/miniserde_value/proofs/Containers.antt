@@ -55,7 +55,8 @@ pub fits_opened : {A E : Type 0} {qs : List OpenObject} {ns : List OpenContainer
     → Fits n (reverse qs) (reverse ns)
 fits_opened {qs = qs} {ns = ns} (Ok u) n os ms p f =
     subst (λ (l : List OpenObject). Fits n l (reverse ns)) (sym (reverse_added os qs p.object p.objects))
-    (subst (λ (l : List OpenContainer). Fits n (p.object ∷ reverse os) l) (sym (reverse_added ms ns container.Object p.marks)) (omega arith, f))
+    (subst (λ (l : List OpenContainer). Fits n (p.object ∷ reverse os) l)
+    (sym (reverse_added ms ns container.Object p.marks)) (omega arith, f))
 fits_opened {qs = qs} {ns = ns} (Err u) n os ms p f =
     subst (λ (l : List OpenObject). Fits n l (reverse ns)) (sym (reverse_added os qs p.object p.objects))
     (subst (λ (l : List OpenContainer). Fits n (p.object ∷ reverse os) (reverse l)) (sym p.marks)

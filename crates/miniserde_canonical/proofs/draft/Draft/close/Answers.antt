@@ -86,10 +86,10 @@ returns c = λ rest s r at.
       sorts = c.in_ok-is_distinct.ensures;
       members = c.truncate-2.ensures.items;
       distinct = refl;
-    }) whole in (
+    }) whole in
+    let opened = sym h.opened ∙ c.in-Some.ensures.items ∙ ap (λ z. z ++ f ∷ []) (sym (o.opened ∙ k.opened)) in (
       o.state,
-      closes s o.state f
-          (sym h.opened ∙ c.in-Some.ensures.items ∙ ap (λ z. z ++ f ∷ []) (sym (o.opened ∙ k.opened))) o.entries (inr (sorted_like (drop f s.entries) s t o.state refl refl o.sorted)),
+      closes s o.state f opened o.entries (inr (sorted_like (drop f s.entries) s t o.state refl refl o.sorted)),
       record {
         bytes = c.sort_members.new.out.bytes.items;
         wrote =

@@ -1,6 +1,7 @@
 -- `-0` and a string with escapes are written anew (`rewritten`), and `{` opens an object in the state
 -- (`holding_opened`). Any other first token of a value stays in the run (`stays`).
 use Rattle.std.proofs.Common.{rules, ◌≡◌, pos, ◌++◌, ◌∷◌, [], length, refl, sym, ap, subst, ◌∙◌}
+use Rattle.miniserde_model.specs.Ascii.{begin_object, quotation_mark, digit_0}
 use Rattle.miniserde_model.specs.Compact.{compact, string_text}
 use Rattle.miniserde_model.specs.Normal.{norm_neg}
 use Rattle.miniserde_text.specs.Lexer.{event_of_token, text_of, SpelledText, SpelledToken}
@@ -28,7 +29,7 @@ returns-in_ok-push-in-Negative-clause-takes c = λ rest part rest' x s s' r take
     let k = c.in_ok-flush-in-Negative.ensures in
     let q = k.wrote rest r.bytes r.wrote takes.at in
     let same = k.only_text in
-    rewritten (48 ∷ []) (subst (λ z. AddsBytes z s s') (ap (λ z. compact (norm_neg z)) zero ∙ decimal_zero) a.0) r
+    rewritten (digit_0 ∷ []) (subst (λ z. AddsBytes z s s') (ap (λ z. compact (norm_neg z)) zero ∙ decimal_zero) a.0) r
     (record {
       splices = same.splices;
       groups = same.groups;
@@ -41,7 +42,7 @@ returns-in_ok-push-in-Negative-clause-takes c = λ rest part rest' x s s' r take
     (record {
       input = refl;
       left = takes.end;
-      text_is = c.in_ok-push-in-Negative.ensures.items ∙ ap (λ z. z ++ 48 ∷ []) q.1;
+      text_is = c.in_ok-push-in-Negative.ensures.items ∙ ap (λ z. z ++ digit_0 ∷ []) q.1;
     }))
 
 pub returns-in_ok-put_quoted-in-Str-clause-takes : goal.returns-in_ok-put_quoted-in-Str-clause-takes
@@ -51,8 +52,8 @@ returns-in_ok-put_quoted-in-Str-clause-takes c = λ rest part rest' x s s' r tak
     let inside : c.args.escaped.now ≡ escapes x =
     subst (λ z. SpelledText escapes z c.args.escaped.now x) c.in-Scratch.is
     (subst (λ z. SpelledToken escapes z c.args.escaped.now x) c.in-Str.is w) in
-    let text : 34 ∷ (c.args.escaped.now ++ 34 ∷ []) ≡ string_text x =
-    ap (λ z. 34 ∷ (z ++ 34 ∷ [])) inside ∙ sym (quoted_escapes x) in
+    let text : quotation_mark ∷ (c.args.escaped.now ++ quotation_mark ∷ []) ≡ string_text x =
+    ap (λ z. quotation_mark ∷ (z ++ quotation_mark ∷ [])) inside ∙ sym (quoted_escapes x) in
     let q = k.wrote rest r.bytes r.wrote takes.at in
     let same = k.only_text in
     rewritten (string_text x) (subst (λ z. AddsBytes (string_text (text_of z x)) s s') c.in-Scratch.is a.0) r
@@ -91,10 +92,10 @@ returns-in-MapStart-clause-takes c = λ rest part rest' x s s' r takes w p h.
     let o = subst (λ z. TokenStep (first_token (event_of_token z x)) s s') c.in-MapStart.is h in
     let d = c.args.self.now in
     let number : c.len.result ≡ length d.members.items = search rules in
-    let w : Wrote d rest' (r.bytes ++ 123 ∷ []) =
+    let w : Wrote d rest' (r.bytes ++ begin_object ∷ []) =
     subst (λ z. Wrote d rest' (r.bytes ++ z)) q.0 (wrote_on part rest' r.wrote takes.text) in
     record {
-      bytes = r.bytes ++ 123 ∷ [];
+      bytes = r.bytes ++ begin_object ∷ [];
       wrote = record { front = w.front; run = w.run; input = w.input; left = w.left; text = w.text };
       holding = holding_opened (record { splices = refl; groups = refl; groups_splices = refl; distinct = refl }) refl
           (c.in_ok-push-in-MapStart.ensures.items ∙ ap (λ z. d.opened.items ++ z ∷ []) number) o r.holding;
