@@ -194,7 +194,7 @@ chain_whole (n ∷ ns) (e ∷ es) groups text last h =
 chain_whole [] (e ∷ es) groups text last h = absurd h
 chain_whole (n ∷ ns) [] groups text last h = absurd h
 
--- the members before the index f, to the last of which the text of the others is added
+-- a chain of the members before the index f alone, the last of which has the text of the others behind its own
 pub chain_merge : (f : ℕ) (ns : List Member) (es : List MemberEntry) (groups : SplicedText) (text : TextFrom) (last : List ℕ)
     → Chain ns es groups text last → Chain (take f ns) (take f es) groups text (entries_text (drop f es) last)
 chain_merge zero ns es groups text last h = chain_whole ns es groups text last h

@@ -110,14 +110,20 @@ holding_opened {d = d} {d' = d'} {bs = bs} {s = s} {s' = s'} k m o a r = record 
   distinct = k.distinct ∙ r.distinct ∙ sym a.3;
 }
 
+-- from d to d' the member n is added behind the others; the splices, the groups, the open objects and `is_distinct` stay
+pub record AddsMember (d d' : Draft) (n : Member) : Type 0 where
+  pub keeps : KeepsGroups d d'
+  pub members : d'.members.items ≡ d.members.items ++ n ∷ []
+  pub opened : d'.opened.items ≡ d.opened.items
+
 -- a member begins, and its name and a colon are put behind its begin
-pub holding_begun : {d d' : Draft} {bs : List ℕ} {s s' : State} (n : Member) (x : List ℕ) → KeepsGroups d d'
-    → d'.members.items ≡ d.members.items ++ n ∷ [] → d'.opened.items ≡ d.opened.items
+pub holding_begun : {d d' : Draft} {bs : List ℕ} {s s' : State} (n : Member) (x : List ℕ) → AddsMember d d' n
     → BeginsBehind n (record { earlier_text = s.last; first = s.first; name = x })
     (text_from text_begin bs d.out.splices.items)
     → TokenStep (name x) s s' → Holding d bs s
     → Holding d' ((bs ++ comma_before s.first) ++ (string_text x ++ name_separator ∷ [])) s'
-holding_begun {d = d} {d' = d'} {bs = bs} {s = s} {s' = s'} n name_text k m o begins a r =
+holding_begun {d = d} {d' = d'} {bs = bs} {s = s} {s' = s'} n name_text m begins a r =
+    let k = m.keeps in
     let ns = d.members.items ++ n ∷ [] in
     let y : MemberEntry = record { earlier_text = s.last; first = s.first; name = name_text } in
     let x = string_text name_text ++ name_separator ∷ [] in
@@ -125,10 +131,10 @@ holding_begun {d = d} {d' = d'} {bs = bs} {s = s} {s' = s'} n name_text k m o be
     let begun : Chain ns (s.entries ++ y ∷ []) d.groups (text_from text_begin cs d.out.splices.items) [] =
     chain_begin d.members.items s.entries d.groups (text_from text_begin bs d.out.splices.items) r.chain begins in
     record {
-      chain = rw (m, k.splices, a.0, a.1) (chain_stays _ _ _ _ (groups_same k.groups k.groups_splices)
+      chain = rw (m.members, k.splices, a.0, a.1) (chain_stays _ _ _ _ (groups_same k.groups k.groups_splices)
           (chain_plain ns (s.entries ++ y ∷ []) d.groups (text_from text_begin cs d.out.splices.items) [] x begun));
       good = still_good k r.good;
-      opened = o ∙ r.opened ∙ sym a.2;
+      opened = m.opened ∙ r.opened ∙ sym a.2;
       distinct = k.distinct ∙ r.distinct ∙ sym a.3;
     }
 

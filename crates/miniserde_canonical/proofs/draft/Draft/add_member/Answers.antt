@@ -25,8 +25,11 @@ returns c = λ rest part rest' before s s' t h k p i a.
           (record { front = t.front; run = t.run; input = t.input; left = t.left; text = t.text }) k p;
       holding = keep_holding c.in_ok-spell.ensures.only_text
           (holding_begun {d = c.args.self.now} c.new-2.result n
-          (record { splices = refl; groups = refl; groups_splices = refl; distinct = refl })
-          c.in_ok-push.ensures.items refl
+          (record {
+            keeps = record { splices = refl; groups = refl; groups_splices = refl; distinct = refl };
+            members = c.in_ok-push.ensures.items;
+            opened = refl;
+          })
           (record {
             name = ap name_of c.new-2.ensures.name ∙ c.in_ok-name.ensures;
             first = c.new-2.ensures.first ∙ sym i;
