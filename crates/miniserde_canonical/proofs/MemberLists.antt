@@ -10,17 +10,16 @@ use Rattle.std.specs.List.Sorted.{IsStableBy, ties}
 use Rattle.std.proofs.lemmas.Cmp.{nat_list_cmp_total, tied_itself}
 use Rattle.std.proofs.lemmas.Map.Lookups.{exact_bytes}
 use Rattle.std.proofs.lemmas.Slice.Eq.{bytes_eq-Decides}
-use Rattle.std.proofs.lemmas.List.{drop_all}
 use Rattle.miniserde_model.specs.Tree.{Tree, str, Members, no_members, member}
 use Rattle.miniserde_model.specs.Normal.{text_cmp, norm_neg, norm, norm_members, or_else, last_of, BeginsAbove, Rise}
 use Rattle.miniserde_model.proofs.Lookups.{or_else_none}
 use Rattle.miniserde_model.proofs.OneNormal.{norm_only}
 use Rattle.miniserde_canonical.specs.declared.member.Member.{Member}
 use Rattle.miniserde_canonical.specs.private.MemberNames.{name_of}
-use Rattle.miniserde_canonical.specs.private.Members.{first_name, name_in, NamesRise, named_members, members_at}
+use Rattle.miniserde_canonical.specs.private.Members.{name_in, NamesRise, named_members, members_at}
 use Rattle.miniserde_canonical.specs.private.Members.{begins_with_name, without_repeats}
 use Rattle.miniserde_canonical.specs.private.States.{MemberEntry, text_before, entry_members, count}
-use Rattle.miniserde_canonical.specs.private.SortMembers.{text_at, own_text_tree}
+use Rattle.miniserde_canonical.specs.private.SortMembers.{own_text_tree}
 
 -- ---- names and entries
 

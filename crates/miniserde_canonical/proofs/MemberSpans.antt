@@ -1,11 +1,10 @@
 -- The span of each member of an object holds its text. By recursion over the index: `own_tail` removes the first
 -- member until `own_first` reads the span of the member asked for.
 use Rattle.std.proofs.Common.{◌≡◌, ◌≤◌, ◌-◌, ◌+◌, ℕ, zero, suc, List, [], ◌∷◌, ◌++◌, length, drop, refl, sym, ap}
-use Rattle.std.proofs.Common.{subst, ◌∙◌, append_assoc, arith, length-append}
+use Rattle.std.proofs.Common.{◌∙◌, append_assoc, arith, length-append}
 use Rattle.std.proofs.lemmas.List.{drop_all}
 use Rattle.miniserde_model.specs.Tokens.{comma_before}
 use Rattle.miniserde_canonical.specs.declared.spread.Point.{Point}
-use Rattle.miniserde_canonical.specs.declared.spread.Splice.{Splice}
 use Rattle.miniserde_canonical.specs.declared.spread.SplicedText.{SplicedText}
 use Rattle.miniserde_canonical.specs.declared.member.Member.{Member}
 use Rattle.miniserde_canonical.specs.private.SplicedTexts.{part_between, Holds, none, text_begin, TextFrom, text_from}

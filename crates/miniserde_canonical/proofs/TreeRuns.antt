@@ -16,7 +16,7 @@ use Rattle.miniserde_model.specs.Normal.{norm, norm_children, norm_members, with
 use Rattle.miniserde_model.specs.Tokens.{Token, leaf, name, array_end, object, object_end, comma_before}
 use Rattle.miniserde_model.specs.Tokens.{tokens, child_tokens, member_tokens}
 use Rattle.miniserde_canonical.specs.private.States.{MemberEntry, State, initial_state, text_before}
-use Rattle.miniserde_canonical.specs.private.States.{entry_members, joined_texts, entries_text, count, once_each}
+use Rattle.miniserde_canonical.specs.private.States.{entry_members, joined_texts, entries_text, count}
 use Rattle.miniserde_canonical.specs.private.States.{Sorted, Arranged, Closes, TokenStep, TokenSteps}
 use Rattle.miniserde_model.proofs.Lookups.{first_of_all}
 use Rattle.miniserde_canonical.proofs.Repeats.{nested_names_distinct, distinct_counted}

@@ -3,7 +3,6 @@
 use Rattle.std.proofs.Common.{sym, ap, subst, ◌∙◌}
 use Rattle.miniserde_model.specs.Normal.{last_of}
 use Rattle.miniserde_canonical.specs.private.Members.{members_at}
-use Rattle.miniserde_canonical.specs.private.SortMembers.{texts}
 use Rattle.miniserde_canonical.proofs.MemberLists.{InNameOrder}
 use Rattle.miniserde_canonical.proofs.SortMembers.{settled}
 use Rattle.miniserde_canonical.proofs.sort_members.sort_members.Goals as goal
