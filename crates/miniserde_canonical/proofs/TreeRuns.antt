@@ -17,7 +17,7 @@ use Rattle.miniserde_model.specs.Tokens.{Token, leaf, name, array_end, object, o
 use Rattle.miniserde_model.specs.Tokens.{tokens, child_tokens, member_tokens}
 use Rattle.miniserde_canonical.specs.private.States.{MemberEntry, State, initial_state, text_before}
 use Rattle.miniserde_canonical.specs.private.States.{entry_members, joined_texts, entries_text, count}
-use Rattle.miniserde_canonical.specs.private.States.{Sorted, Arranged, Closes, TokenStep, TokenSteps}
+use Rattle.miniserde_canonical.specs.private.States.{AddsBytes, Sorted, Arranged, Closes, TokenStep, TokenSteps}
 use Rattle.miniserde_model.proofs.Lookups.{first_of_all}
 use Rattle.miniserde_canonical.proofs.Repeats.{nested_names_distinct, distinct_counted}
 
@@ -30,7 +30,7 @@ steps_append (k ∷ ks) ls s m s' r p = (r.0, r.1, steps_append ks ls r.0 m s' r
 
 -- ---- what a run adds
 
--- x is added, and d says that no object that was closed had a name twice
+-- from s to s' the text x is added; d says whether no object that was closed had duplicate names
 record Grows (s s' : State) (x : List ℕ) (d : Bool) : Type 0 where
   pub last : s'.last ≡ s.last ++ x
   pub entries : s'.entries ≡ s.entries
@@ -39,6 +39,10 @@ record Grows (s s' : State) (x : List ℕ) (d : Bool) : Type 0 where
 
 grows_none : (s : State) → Grows s s [] true
 grows_none s = record { last = sym (append-nil s.last); entries = refl; opened = refl; distinct = sym (and-true s.distinct) }
+
+-- the bytes x of one token are added
+grows_by : {s s' : State} {x : List ℕ} → AddsBytes x s s' → Grows s s' x true
+grows_by {s = s} a = record { last = a.0; entries = a.1; opened = a.2; distinct = a.3 ∙ sym (and-true s.distinct) }
 
 grows_append : {s m s' : State} {x y : List ℕ} {d e : Bool} → Grows s m x d → Grows m s' y e → Grows s s' (x ++ y) (d && e)
 grows_append {s = s} {x = x} {y = y} {d = d} {e = e} p q = record {
@@ -57,7 +61,7 @@ Whole s s' x d = Grows s s' x d × (s'.first ≡ false)
 
 -- ---- members
 
--- with the trees in their normal forms, in the order of the text
+-- the members ms with their trees in normal form, still in the order of the text
 abbrev mapped : Members → Members
 mapped no_members = no_members
 mapped (member n t ms) = member n (norm t) (mapped ms)
@@ -71,7 +75,7 @@ abbrev rows_of : Members → Members
 rows_of no_members = no_members
 rows_of (member n t ms) = member n (str (row n t)) (rows_of ms)
 
--- a run over the members ms, from a state with the text l and the flag f on, adds the entries es, and ends with the text `last`
+-- a run over the members ms that begins with the text l and the flag f adds the entries es, and ends with the text `last`
 abbrev Lays : List MemberEntry → Members → List ℕ → Bool → List ℕ → Type 0
 Lays [] no_members l f last = last ≡ l
 Lays (e ∷ es) (member n t ms) l f last = (e.earlier_text ≡ l) × (e.first ≡ f) × (e.name ≡ n) × Lays es ms (row n (norm t)) false last
@@ -264,7 +268,7 @@ first_text true (tree t ts) e = ap (λ z. compact t ++ z) (more_text ts)
 first_text false ts e = absurd (cc)
 
 leaf_grows : (t : Tree) (s m : State) → TokenStep (leaf t) s m → Whole s m (compact (norm t)) true
-leaf_grows t s m a = (record { last = a.0.0; entries = a.0.1; opened = a.0.2; distinct = a.0.3 ∙ sym (and-true s.distinct) }, a.1)
+leaf_grows t s m a = (grows_by a.0, a.1)
 
 mutual
   tree_grows : (t : Tree) (ks : List Token) (s s' : State) → TokenSteps (tokens t ks) s s'
@@ -273,22 +277,8 @@ mutual
       let m = r.0 in
       let t = children_grow ts (array_end ∷ ks) m s' r.2 in
       let e = t.2 in
-      let begun : Grows s m (begin_array ∷ []) true =
-      record {
-        last = r.1.0.0;
-        entries = r.1.0.1;
-        opened = r.1.0.2;
-        distinct =
-            r.1.0.3 ∙ sym (and-true s.distinct);
-      } in
-      let closed : Grows t.0 e.0 (end_array ∷ []) true =
-      record {
-        last = e.1.0.0;
-        entries = e.1.0.1;
-        opened = e.1.0.2;
-        distinct =
-            e.1.0.3 ∙ sym (and-true t.0.distinct);
-      } in
+      let begun : Grows s m (begin_array ∷ []) true = grows_by r.1.0 in
+      let closed : Grows t.0 e.0 (end_array ∷ []) true = grows_by e.1.0 in
       let inside : Grows m t.0 (compact_children (norm_children ts)) (names_distinct_in_children ts) =
       grows_as (first_text m.first (norm_children ts) r.1.1) refl t.1 in
       let all = grows_append begun (grows_append inside closed) in
@@ -298,14 +288,7 @@ mutual
       let t = members_grow ms (object_end ∷ ks) m s' r.2 in
       let e = t.2 in
       let k = e.1.0 in
-      let closed : Grows k e.0 (end_object ∷ []) true =
-      record {
-        last = e.1.2.0;
-        entries = e.1.2.1;
-        opened = e.1.2.2;
-        distinct =
-            e.1.2.3 ∙ sym (and-true k.distinct);
-      } in
+      let closed : Grows k e.0 (end_object ∷ []) true = grows_by e.1.2 in
       let all = grows_append (object_grows ms s k r.1 t.1 e.1.1) closed in
       (e.0, (grows_as refl (and-true (names_distinct_in_members ms)) all, e.1.3), e.2)
   tree_grows t ks s s' r = (r.0, leaf_grows t s r.0 r.1, r.2)
@@ -317,8 +300,7 @@ mutual
       let m = r.0 in
       let u = tree_grows t (child_tokens ts ks) m s' r.2 in
       let v = children_grow ts ks u.0 s' u.2 in
-      let begun : Grows s m (comma_before s.first) true =
-      record { last = r.1.0; entries = r.1.1; opened = r.1.2; distinct = r.1.3 ∙ sym (and-true s.distinct) } in
+      let begun : Grows s m (comma_before s.first) true = grows_by r.1 in
       let rest : Grows u.0 v.0 (children_text false (norm_children ts)) (names_distinct_in_children ts) =
       grows_as (ap (λ z. children_text z (norm_children ts)) u.1.1) refl v.1 in
       (v.0, grows_append begun (grows_append u.1.0 rest), v.2)
