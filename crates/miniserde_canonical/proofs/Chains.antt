@@ -1,6 +1,6 @@
 -- The text of a draft, cut before each member, is a chain of the members' texts, and each step of a draft keeps the
 -- chain. By induction over the members: the seam before a member has its comma, its point and its name.
-use Rattle.std.proofs.Common.{◌≡◌, ◌+◌, ℕ, suc, List, [], ◌∷◌, ◌++◌, length, refl, sym, ap, subst, ◌∙◌}
+use Rattle.std.proofs.Common.{◌≡◌, ◌+◌, ℕ, zero, suc, List, [], ◌∷◌, ◌++◌, length, take, drop, refl, sym, ap, subst, ◌∙◌}
 use Rattle.std.proofs.Common.{append_assoc, append-nil, arith, length-append}
 use Rattle.miniserde_model.specs.Tokens.{comma_before}
 use Rattle.miniserde_canonical.specs.declared.spread.Point.{Point}
@@ -139,10 +139,10 @@ pub record BeginsBehind (n : Member) (e : MemberEntry) (text : TextFrom) : Type 
   pub splices : n.point.splices ≡ text.from.splices + length text.splices
 
 -- one more member
-pub chain_begin : (ns : List Member) (es : List MemberEntry) (groups : SplicedText) (text : TextFrom) (last : List ℕ) {n : Member}
-    {e : MemberEntry} → Chain ns es groups text last → e.earlier_text ≡ last → BeginsBehind n e text
+pub chain_begin : (ns : List Member) (es : List MemberEntry) (groups : SplicedText) (text : TextFrom) {n : Member}
+    {e : MemberEntry} → Chain ns es groups text e.earlier_text → BeginsBehind n e text
     → Chain (ns ++ n ∷ []) (es ++ e ∷ []) groups (text_from text.from (text.bytes ++ comma_before e.first) text.splices) []
-chain_begin [] [] groups text last {e = e} h t b = record {
+chain_begin [] [] groups text {e = e} h b = record {
   before = text.bytes;
   behind = [];
   splices_before = text.splices;
@@ -153,23 +153,23 @@ chain_begin [] [] groups text last {e = e} h t b = record {
   first = b.first;
   begins = b.bytes;
   begins_splices = b.splices;
-  is_before = subst (FilledPart groups text) (sym t) h;
+  is_before = h;
   is_behind = none;
 }
-chain_begin (m ∷ ns) (f ∷ es) groups text last {n = n} {e = e} h t b =
+chain_begin (m ∷ ns) (f ∷ es) groups text {n = n} {e = e} h b =
     let x = comma_before e.first in
     let far = seam_end m f text h in
     let here : n.point.bytes ≡ m.point.bytes + length (h.behind ++ x) =
     omega (arith, b.bytes, far.0, length-append text.bytes x, length-append h.behind x) in
-    let rest = chain_begin ns es groups (text_from m.point h.behind h.splices_behind) last {n = n} {e = e} h.is_behind t
+    let rest = chain_begin ns es groups (text_from m.point h.behind h.splices_behind) {n = n} {e = e} h.is_behind
     (record { name = b.name; first = b.first; bytes = here; splices = omega (arith, b.splices, far.1) }) in
     subst (λ z. Chain (m ∷ (ns ++ n ∷ [])) (f ∷ (es ++ e ∷ [])) groups (text_from text.from (text.bytes ++ x) z) [])
     (append-nil text.splices)
     (seam_more m f text x [] h
     (subst (λ z. Chain (ns ++ n ∷ []) (es ++ e ∷ []) groups (text_from m.point (h.behind ++ x) z) [])
     (sym (append-nil h.splices_behind)) rest))
-chain_begin [] (f ∷ es) groups text last h t b = absurd h
-chain_begin (m ∷ ns) [] groups text last h t b = absurd h
+chain_begin [] (f ∷ es) groups text h b = absurd h
+chain_begin (m ∷ ns) [] groups text h b = absurd h
 
 -- the text of all
 pub chain_whole : (ns : List Member) (es : List MemberEntry) (groups : SplicedText) (text : TextFrom) (last : List ℕ)
@@ -194,26 +194,41 @@ chain_whole (n ∷ ns) (e ∷ es) groups text last h =
 chain_whole [] (e ∷ es) groups text last h = absurd h
 chain_whole (n ∷ ns) [] groups text last h = absurd h
 
--- without the last members, whose text stays
-pub chain_merge : (ns0 : List Member) (es0 : List MemberEntry) (ns : List Member) (es : List MemberEntry) (groups : SplicedText)
-    (text : TextFrom) (last : List ℕ) → length ns0 ≡ length es0 → Chain (ns0 ++ ns) (es0 ++ es) groups text last
-    → Chain ns0 es0 groups text (entries_text es last)
-chain_merge [] [] ns es groups text last l h = chain_whole ns es groups text last h
-chain_merge (m ∷ ns0) (f ∷ es0) ns es groups text last l h =
-    seam_as m f text h h.is_before
-    (chain_merge ns0 es0 ns es groups (text_from m.point h.behind h.splices_behind) last (omega (arith, l)) h.is_behind)
-chain_merge [] (f ∷ es0) ns es groups text last l h = absurd (omega (arith, l))
-chain_merge (m ∷ ns0) [] ns es groups text last l h = absurd (omega (arith, l))
+-- a chain of the members before the index f alone, the last of which has the text of the others behind its own
+pub chain_merge : (f : ℕ) (ns : List Member) (es : List MemberEntry) (groups : SplicedText) (text : TextFrom) (last : List ℕ)
+    → Chain ns es groups text last → Chain (take f ns) (take f es) groups text (entries_text (drop f es) last)
+chain_merge zero ns es groups text last h = chain_whole ns es groups text last h
+chain_merge (suc f) [] [] groups text last h = h
+chain_merge (suc f) (n ∷ ns) (e ∷ es) groups text last h =
+    seam_as n e text h h.is_before
+    (chain_merge f ns es groups (text_from n.point h.behind h.splices_behind) last h.is_behind)
+chain_merge (suc f) [] (e ∷ es) groups text last h = absurd h
+chain_merge (suc f) (n ∷ ns) [] groups text last h = absurd h
 
--- a chain with the member n and its entry e at the same index is cut before n
-pub chain_cut : (ns0 : List Member) (es0 : List MemberEntry) (n : Member) (e : MemberEntry) (ns : List Member) (es : List MemberEntry)
-    (groups : SplicedText) (text : TextFrom) (last : List ℕ) → length ns0 ≡ length es0
-    → Chain (ns0 ++ n ∷ ns) (es0 ++ e ∷ es) groups text last
-    → Seam (λ part. Chain ns0 es0 groups part e.earlier_text) (λ part. Chain ns es groups part last) n e text
-chain_cut [] [] n e ns es groups text last l h = h
-chain_cut (m ∷ ns0) (f ∷ es0) n e ns es groups text last l h =
-    let r = chain_cut ns0 es0 n e ns es groups (text_from m.point h.behind h.splices_behind) last (omega (arith, l)) h.is_behind in
-    let x = comma_before f.first in
+-- the member n of ns and the entry e of es are the ones at the index f
+pub record BothAt (f : ℕ) (ns : List Member) (es : List MemberEntry) (n : Member) (e : MemberEntry) : Type 0 where
+  pub members_behind : List Member
+  pub entries_behind : List MemberEntry
+  pub members : drop f ns ≡ n ∷ members_behind
+  pub entries : drop f es ≡ e ∷ entries_behind
+
+-- a chain is cut before the member n, which stands for the entry e
+pub chain_cut : {f : ℕ} {ns : List Member} {es : List MemberEntry} {n : Member} {e : MemberEntry} (groups : SplicedText)
+    (text : TextFrom) (last : List ℕ) (b : BothAt f ns es n e) → Chain ns es groups text last
+    → Seam (λ part. Chain (take f ns) (take f es) groups part e.earlier_text)
+    (λ part. Chain b.members_behind b.entries_behind groups part last) n e text
+chain_cut {f = zero} {es = es} {n = n} groups text last b h =
+    subst (λ z. Chain (n ∷ b.members_behind) z groups text last) b.entries (subst (λ z. Chain z es groups text last) b.members h)
+chain_cut {f = suc f} {ns = m ∷ ns} {es = d ∷ es} {e = e} groups text last b h =
+    let r = chain_cut {f = f} {ns = ns} {es = es} {e = e} groups (text_from m.point h.behind h.splices_behind) last
+    (record {
+      members_behind = b.members_behind;
+      entries_behind = b.entries_behind;
+      members = b.members;
+      entries = b.entries;
+    })
+    h.is_behind in
+    let x = comma_before d.first in
     let y = comma_before e.first in
     let front = h.before ++ (x ++ r.before) in
     record {
@@ -256,5 +271,5 @@ chain_cut (m ∷ ns0) (f ∷ es0) n e ns es groups text last l h =
   where
     rejoin : (a x b y : List ℕ) → a ++ (x ++ (b ++ y)) ≡ (a ++ (x ++ b)) ++ y
     rejoin a x b y = simp append_assoc refl
-chain_cut [] (f ∷ es0) n e ns es groups text last l h = absurd (omega (arith, l))
-chain_cut (m ∷ ns0) [] n e ns es groups text last l h = absurd (omega (arith, l))
+chain_cut {f = suc f} {ns = []} groups text last b h = absurd (omega (arith, ap length b.members))
+chain_cut {f = suc f} {ns = m ∷ ns} {es = []} groups text last b h = absurd h

@@ -4,15 +4,15 @@ use Rattle.std.proofs.Common.{◌≡◌, ◌≤◌, ◌<◌, ◌-◌, ◌+◌, �
 use Rattle.std.proofs.Common.{take, drop, refl, sym, ap, ap₂, subst, ◌∙◌, append_assoc, append-nil, arith}
 use Rattle.std.proofs.Common.{length-append}
 use Rattle.std.proofs.Math.Seq.{take-append_seam}
-use Rattle.std.proofs.lemmas.List.{take-append-drop, length-take-le, length-drop, drop_all, take_all}
+use Rattle.std.proofs.lemmas.List.{length-drop, drop_all, take_all}
+use Rattle.miniserde_model.specs.Ascii.{begin_object, name_separator}
 use Rattle.miniserde_model.specs.Compact.{string_text}
 use Rattle.miniserde_model.specs.Normal.{norm_members, Rise}
 use Rattle.miniserde_model.specs.Tokens.{name, object, comma_before}
-use Rattle.miniserde_canonical.specs.declared.spread.Splice.{Splice}
 use Rattle.miniserde_canonical.specs.declared.spread.SplicedText.{SplicedText}
 use Rattle.miniserde_canonical.specs.declared.member.Member.{Member}
 use Rattle.miniserde_canonical.specs.declared.draft.Draft.{Draft}
-use Rattle.miniserde_canonical.specs.private.SplicedTexts.{none, SplicesInOrder, text_begin, text_from, FilledText, FilledPart}
+use Rattle.miniserde_canonical.specs.private.SplicedTexts.{none, SplicesInOrder, text_begin, TextFrom, text_from, FilledText, FilledPart}
 use Rattle.miniserde_canonical.specs.private.Members.{NamesRise}
 use Rattle.miniserde_canonical.specs.private.States.{MemberEntry, State, initial_state, entry_members}
 use Rattle.miniserde_canonical.specs.private.States.{joined_texts, entries_text, once_each, AddsBytes, Sorted}
@@ -21,9 +21,9 @@ use Rattle.miniserde_canonical.specs.private.SortMembers.{Chain, EndsWithMembers
 use Rattle.miniserde_canonical.specs.private.Drafts.{Wrote, Holding, Represents, ChangesOnlyText}
 use Rattle.miniserde_canonical.proofs.SplicedTexts.{holds_plain, holds_behind}
 use Rattle.miniserde_canonical.proofs.Chains.{BeginsBehind, chain_lengths, chain_add, GroupsStay, groups_same}
-use Rattle.miniserde_canonical.proofs.Chains.{chain_stays, chain_begin, chain_merge, chain_cut}
+use Rattle.miniserde_canonical.proofs.Chains.{chain_stays, chain_begin, chain_merge, BothAt, chain_cut}
 use Rattle.miniserde_canonical.proofs.MemberSpans.{chain_agrees, cut_own}
-use Rattle.miniserde_canonical.proofs.InputRuns.{RunBegins, wrote_on, rewound}
+use Rattle.miniserde_canonical.proofs.InputRuns.{wrote_on}
 use Rattle.miniserde_canonical.proofs.MemberLists.{Agree, rise_all}
 
 -- the draft has no text, no groups, no members and no open objects, and found no duplicate name
@@ -65,18 +65,17 @@ keep_holding {d = d} {d' = d'} k h = record {
 -- ---- text
 
 -- bytes behind the last member
-chain_plain : (ns : List Member) (es : List MemberEntry) (groups : SplicedText) (bs : List ℕ) (hs : List Splice)
-    (last x : List ℕ) → Chain ns es groups (text_from text_begin bs hs) last
-    → Chain ns es groups (text_from text_begin (bs ++ x) hs) (last ++ x)
-chain_plain ns es groups bs hs last x c =
-    subst (λ z. Chain ns es groups (text_from text_begin (bs ++ x) z) (last ++ x)) (append-nil hs)
-    (chain_add ns es groups (text_from text_begin bs hs) last c
-    (holds_plain groups.bytes.items groups.splices.items (0 + length bs) x))
+chain_plain : (ns : List Member) (es : List MemberEntry) (groups : SplicedText) (text : TextFrom) (last x : List ℕ)
+    → Chain ns es groups text last → Chain ns es groups (text_from text.from (text.bytes ++ x) text.splices) (last ++ x)
+chain_plain ns es groups text last x c =
+    subst (λ z. Chain ns es groups (text_from text.from (text.bytes ++ x) z) (last ++ x)) (append-nil text.splices)
+    (chain_add ns es groups text last c
+    (holds_plain groups.bytes.items groups.splices.items (text.from.bytes + length text.bytes) x))
 
 -- if a draft holds s, and s' is s with the bytes x appended, it holds s' with x after its bytes
 pub holding_added : {d : Draft} {bs : List ℕ} {s s' : State} (x : List ℕ) → AddsBytes x s s' → Holding d bs s → Holding d (bs ++ x) s'
 holding_added {d = d} {bs = bs} {s = s} x a r = record {
-  chain = rw (a.1, a.0) (chain_plain d.members.items s.entries d.groups bs d.out.splices.items s.last x r.chain);
+  chain = rw (a.1, a.0) (chain_plain d.members.items s.entries d.groups (text_from text_begin bs d.out.splices.items) s.last x r.chain);
   good = r.good;
   opened = r.opened ∙ sym a.2;
   distinct = r.distinct ∙ sym a.3;
@@ -102,34 +101,40 @@ as_many_entries {d = d} {bs = bs} {s = s} r =
 -- with `{` after its bytes and its number of members in `opened`, a draft holds the state with one more object
 pub holding_opened : {d d' : Draft} {bs : List ℕ} {s s' : State} → KeepsGroups d d' → d'.members.items ≡ d.members.items
     → d'.opened.items ≡ d.opened.items ++ length d.members.items ∷ [] → TokenStep object s s' → Holding d bs s
-    → Holding d' (bs ++ 123 ∷ []) s'
+    → Holding d' (bs ++ begin_object ∷ []) s'
 holding_opened {d = d} {d' = d'} {bs = bs} {s = s} {s' = s'} k m o a r = record {
   chain = rw (m, k.splices, a.1, a.0) (chain_stays _ _ _ _ (groups_same k.groups k.groups_splices)
-      (chain_plain d.members.items s.entries d.groups bs d.out.splices.items s.last (123 ∷ []) r.chain));
+      (chain_plain d.members.items s.entries d.groups (text_from text_begin bs d.out.splices.items) s.last (begin_object ∷ []) r.chain));
   good = still_good k r.good;
   opened = o ∙ ap₂ (λ (x : List ℕ) (y : ℕ). x ++ y ∷ []) r.opened (as_many_entries r) ∙ sym a.2;
   distinct = k.distinct ∙ r.distinct ∙ sym a.3;
 }
 
+-- from d to d' the member n is added behind the others; the splices, the groups, the open objects and `is_distinct` stay
+pub record AddsMember (d d' : Draft) (n : Member) : Type 0 where
+  pub keeps : KeepsGroups d d'
+  pub members : d'.members.items ≡ d.members.items ++ n ∷ []
+  pub opened : d'.opened.items ≡ d.opened.items
+
 -- a member begins, and its name and a colon are put behind its begin
-pub holding_begun : {d d' : Draft} {bs : List ℕ} {s s' : State} (n : Member) (x : List ℕ) → KeepsGroups d d'
-    → d'.members.items ≡ d.members.items ++ n ∷ [] → d'.opened.items ≡ d.opened.items
+pub holding_begun : {d d' : Draft} {bs : List ℕ} {s s' : State} (n : Member) (x : List ℕ) → AddsMember d d' n
     → BeginsBehind n (record { earlier_text = s.last; first = s.first; name = x })
     (text_from text_begin bs d.out.splices.items)
     → TokenStep (name x) s s' → Holding d bs s
-    → Holding d' ((bs ++ comma_before s.first) ++ (string_text x ++ 58 ∷ [])) s'
-holding_begun {d = d} {d' = d'} {bs = bs} {s = s} {s' = s'} n name_text k m o begins a r =
+    → Holding d' ((bs ++ comma_before s.first) ++ (string_text x ++ name_separator ∷ [])) s'
+holding_begun {d = d} {d' = d'} {bs = bs} {s = s} {s' = s'} n name_text m begins a r =
+    let k = m.keeps in
     let ns = d.members.items ++ n ∷ [] in
     let y : MemberEntry = record { earlier_text = s.last; first = s.first; name = name_text } in
-    let x = string_text name_text ++ 58 ∷ [] in
+    let x = string_text name_text ++ name_separator ∷ [] in
     let cs = bs ++ comma_before s.first in
     let begun : Chain ns (s.entries ++ y ∷ []) d.groups (text_from text_begin cs d.out.splices.items) [] =
-    chain_begin d.members.items s.entries d.groups (text_from text_begin bs d.out.splices.items) s.last r.chain refl begins in
+    chain_begin d.members.items s.entries d.groups (text_from text_begin bs d.out.splices.items) r.chain begins in
     record {
-      chain = rw (m, k.splices, a.0, a.1) (chain_stays _ _ _ _ (groups_same k.groups k.groups_splices)
-          (chain_plain ns (s.entries ++ y ∷ []) d.groups cs d.out.splices.items [] x begun));
+      chain = rw (m.members, k.splices, a.0, a.1) (chain_stays _ _ _ _ (groups_same k.groups k.groups_splices)
+          (chain_plain ns (s.entries ++ y ∷ []) d.groups (text_from text_begin cs d.out.splices.items) [] x begun));
       good = still_good k r.good;
-      opened = o ∙ r.opened ∙ sym a.2;
+      opened = m.opened ∙ r.opened ∙ sym a.2;
       distinct = k.distinct ∙ r.distinct ∙ sym a.3;
     }
 
@@ -146,26 +151,11 @@ snoc_same (a ∷ xs) (b ∷ ys) x y e =
     (ap₂ (λ (p : ℕ) (q : List ℕ). p ∷ q) first r.0, r.1)
 
 -- m is s after its innermost object closed, if m has the outer objects and entries, and the others are arranged
-pub closes : (s m : State) (os : List ℕ) (f : ℕ) → s.opened ≡ os ++ f ∷ [] → m.opened ≡ os
-    → m.entries ≡ take f s.entries → Arranged (drop f s.entries) s m → Closes s m
-closes s m os f e o n a = λ ps g h l.
-    let r = snoc_same os ps f g (sym e ∙ h) in
-    (o ∙ r.0, n ∙ ap (λ z. take z s.entries) r.1, subst (λ z. Arranged (drop z s.entries) s m) r.1 a)
-
--- the chain of all, as members before and behind
-parted : (d : Draft) (bs : List ℕ) (s : State) (f : ℕ) → Holding d bs s
-    → Chain (take f d.members.items ++ drop f d.members.items) (take f s.entries ++ drop f s.entries) d.groups
-    (text_from text_begin bs d.out.splices.items) s.last
-parted d bs s f r =
-    let text = text_from text_begin bs d.out.splices.items in
-    subst (λ z. Chain z (take f s.entries ++ drop f s.entries) d.groups text s.last)
-    (sym (take-append-drop f d.members.items))
-    (subst (λ z. Chain d.members.items z d.groups text s.last) (sym (take-append-drop f s.entries)) r.chain)
-
-as_many : (d : Draft) (bs : List ℕ) (s : State) (f : ℕ) → Holding d bs s → f ≤ length d.members.items
-    → length (take f d.members.items) ≡ length (take f s.entries)
-as_many d bs s f r l =
-    length-take-le f d.members.items l ∙ sym (length-take-le f s.entries (omega (arith, l, as_many_entries r)))
+pub closes : (s m : State) (f : ℕ) → s.opened ≡ m.opened ++ f ∷ [] → m.entries ≡ take f s.entries
+    → Arranged (drop f s.entries) s m → Closes s m
+closes s m f e n a = λ os g h l.
+    let r = snoc_same m.opened os f g (sym e ∙ h) in
+    (r.0, n ∙ ap (λ z. take z s.entries) r.1, subst (λ z. Arranged (drop z s.entries) s m) r.1 a)
 
 -- the members behind a point agree with their entries
 own_part : (f : ℕ) (ns : List Member) (es : List MemberEntry) → Agree ns es → Agree (drop f ns) (drop f es)
@@ -186,7 +176,7 @@ rises_behind {d = d} {bs = bs} {s = s} f ns e h r =
     (subst NamesRise e h)
 
 -- the names rise
-pub holding_same : {d d' : Draft} {bs : List ℕ} {s : State} (f : ℕ) → f ≤ length d.members.items → KeepsGroups d d'
+pub holding_same : {d d' : Draft} {bs : List ℕ} {s : State} (f : ℕ) → KeepsGroups d d'
     → d'.members.items ≡ take f d.members.items → Holding d bs s
     → Holding d' bs (record {
       entries = take f s.entries;
@@ -196,11 +186,10 @@ pub holding_same : {d d' : Draft} {bs : List ℕ} {s : State} (f : ℕ) → f �
       first = s.first;
       distinct = s.distinct;
     })
-holding_same {d = d} {d' = d'} {bs = bs} {s = s} f l k m r =
+holding_same {d = d} {d' = d'} {bs = bs} {s = s} f k m r =
     let text = text_from text_begin bs d.out.splices.items in
     let c : Chain (take f d.members.items) (take f s.entries) d.groups text (entries_text (drop f s.entries) s.last) =
-    chain_merge (take f d.members.items) (take f s.entries) (drop f d.members.items) (drop f s.entries) d.groups text
-    s.last (as_many d bs s f r l) (parted d bs s f r) in
+    chain_merge f d.members.items s.entries d.groups text s.last r.chain in
     record {
       chain = rw (m, k.splices) (chain_stays _ _ _ _ (groups_same k.groups k.groups_splices) c);
       good = still_good k r.good;
@@ -225,17 +214,19 @@ pub record SortedFrom (d d' : Draft) (f : ℕ) (ns : List Member) : Type 0 where
   pub distinct : d'.is_distinct ≡ (d.is_distinct && is_distinct)
 
 ordered_at : {d d' : Draft} {s : State} {f : ℕ} {n : Member} {ns : List Member} (e : MemberEntry) (es : List MemberEntry)
-    → f ≤ length d.members.items → SortedFrom d d' f (n ∷ ns) → Holding d d.out.bytes.items s
+    → SortedFrom d d' f (n ∷ ns) → Holding d d.out.bytes.items s
     → drop f s.entries ≡ e ∷ es → PutInOrder d d' s f
-ordered_at {d = d} {d' = d'} {s = s} {f = f} {n = n} {ns = ns} e es l o h is =
+ordered_at {d = d} {d' = d'} {s = s} {f = f} {n = n} {ns = ns} e es o h is =
     let ms = take f d.members.items in
     let before = take f s.entries in
     let text = text_from text_begin d.out.bytes.items d.out.splices.items in
-    let chain : Chain (ms ++ n ∷ ns) (before ++ e ∷ es) d.groups text s.last =
-    subst (λ z. Chain (ms ++ z) (before ++ e ∷ es) d.groups text s.last) (sym o.all)
-    (subst (λ z. Chain (ms ++ drop f d.members.items) (before ++ z) d.groups text s.last) is
-    (parted d d.out.bytes.items s f h)) in
-    let c = chain_cut ms before n e ns es d.groups text s.last (as_many d d.out.bytes.items s f h l) chain in
+    let at : BothAt f d.members.items s.entries n e = record {
+      members_behind = ns;
+      entries_behind = es;
+      members = sym o.all;
+      entries = is;
+    } in
+    let c = chain_cut d.groups text s.last at h.chain in
     let own : EndsWithMembers (n ∷ ns) (e ∷ es) d.groups d.out s.last = cut_own n e d.out c in
     let r = o.sorts (e ∷ es) s.last own in
     let p = r.0 in
@@ -283,16 +274,16 @@ ordered_at {d = d} {d' = d'} {s = s} {f = f} {n = n} {ns = ns} e es l o h is =
     }
 
 -- a draft whose members from the index f on were sorted and removed holds a state with these entries sorted
-pub holding_sorted : {d d' : Draft} {s : State} {f : ℕ} {ns : List Member} → f ≤ length d.members.items → 0 < length ns
-    → SortedFrom d d' f ns → Holding d d.out.bytes.items s → PutInOrder d d' s f
-holding_sorted {d = d} {d' = d'} {s = s} {f = f} {ns = ns} l some o r = go ns (drop f s.entries) refl some o
+pub holding_sorted : {d d' : Draft} {s : State} {f : ℕ} {ns : List Member} → 0 < length ns → SortedFrom d d' f ns
+    → Holding d d.out.bytes.items s → PutInOrder d d' s f
+holding_sorted {d = d} {d' = d'} {s = s} {f = f} {ns = ns} some o r = go ns (drop f s.entries) refl some o
   where
     go : (ns : List Member) (es : List MemberEntry) → drop f s.entries ≡ es → 0 < length ns → SortedFrom d d' f ns
         → PutInOrder d d' s f
     go [] es h some o = absurd (omega (arith, some))
     go (n ∷ ns) [] h some o =
         absurd (omega (arith, ap length o.all, length-drop f d.members.items, ap length h, length-drop f s.entries, as_many_entries r))
-    go (n ∷ ns) (x ∷ es) h some o = ordered_at x es l o r h
+    go (n ∷ ns) (x ∷ es) h some o = ordered_at x es o r h
 
 -- ---- calls
 
@@ -311,16 +302,11 @@ too_few {d = d} {bs = bs} {s = s} os before r e l = λ ps f h i.
 pub behind : (xs ys : List Member) (f : ℕ) → ys ≡ xs → take (length ys - f) (drop f ys) ≡ drop f xs
 behind xs ys f e = take_all (length ys - f) (drop f ys) (omega (arith, length-drop f ys)) ∙ ap (drop f) e
 
--- if a draft d is flushed up to a part of the input, which gives e, and the bytes x are appended in place of the part,
--- which gives d', then d' represents a state with x appended
-pub rewritten : {d e d' : Draft} {rest rest' : List ℕ} {s s' : State} (part x : List ℕ) → AddsBytes x s s'
-    → (r : Represents d rest s) → Wrote e rest r.bytes → ChangesOnlyText d d' → rest ≡ part ++ rest'
-    → RunBegins e d' rest' (r.bytes ++ x) → Represents d' rest' s'
-rewritten part x a r w k p b = record {
-  bytes = r.bytes ++ x;
-  wrote = rewound part w p b;
-  holding = holding_added x a (keep_holding k r.holding);
-}
+-- if a draft d represents s, d' differs from d in the text and the run alone, and the bytes of d' are those of d and x, then
+-- d' represents s with x appended
+pub rewritten : {d d' : Draft} {rest rest' : List ℕ} {s s' : State} (x : List ℕ) → AddsBytes x s s' → (r : Represents d rest s)
+    → ChangesOnlyText d d' → Wrote d' rest' (r.bytes ++ x) → Represents d' rest' s'
+rewritten x a r k w = record { bytes = r.bytes ++ x; wrote = w; holding = holding_added x a (keep_holding k r.holding) }
 
 -- if the next part of the input is what the state gains, the draft stays as it is: the part joins what was read and not
 -- yet copied

@@ -50,7 +50,7 @@ parted {ms = ms} {x = x} {y = y} {a = a} {b = b} p =
 before_splice : {ms x y : List ℕ} {a b : ℕ} (h : ℕ) → Halves ms a b x y → h ≡ a + length x → part_between a h ms ≡ x
 before_splice {ms = ms} {x = x} {y = y} {a = a} h p f =
     let t = parted p in
-    between_mid a h ms (take a ms) x (y ++ t.0) t.1 (sym (length-take-le a ms (omega (arith, p.rises, p.within)))) f
+    between_mid a h (take a ms) _ t.1 (sym (length-take-le a ms (omega (arith, p.rises, p.within)))) f
 
 behind_splice : {ms x y : List ℕ} {a b : ℕ} (h : ℕ) → Halves ms a b x y → h ≡ a + length x
     → (h ≤ b) × (part_between h b ms ≡ y)
@@ -63,7 +63,7 @@ behind_splice {ms = ms} {x = x} {y = y} {a = a} {b = b} h p f =
     ∙ length-append x y in
     let text : ms ≡ (take a ms ++ x) ++ (y ++ t.0) = t.1 ∙ sym (append_assoc (take a ms) x (y ++ t.0)) in (
       omega (arith, f, wide, i),
-      between_mid h b ms (take a ms ++ x) y t.0 text (omega (arith, f, front, length-append (take a ms) x)) (omega (arith, f, wide, i)),
+      between_mid h b (take a ms ++ x) _ text (omega (arith, f, front, length-append (take a ms) x)) (omega (arith, f, wide, i)),
     )
 
 first_splice : (a b : ℕ) (gs : List Splice) (d : Splice) → a < b → a < length gs
@@ -228,15 +228,19 @@ group_begins groups p out {later' = later'} e f = λ x s.
     let is : later' ≡ p ∷ [] = f ∙ ap (λ z. z ++ p ∷ []) e in
     (x, subst (λ z. SpansHold groups z x) (sym is) ([], x, refl, s, refl), refl)
 
+-- from `old` to `new` the span q, the last one that waited, is taken off, and nothing is written
+pub record Pops (q : Span) (old new : Progress) : Type 0 where
+  pub later : old.later ≡ new.later ++ q ∷ []
+  pub out : new.out ≡ old.out
+
 -- if `put_span` writes the last waiting span q, the output and the waiting spans make the same text as before
-pub group_goes : (groups : SplicedText) (p q : Span) (start : List ℕ) (old popped new : Progress)
-    → old.later ≡ popped.later ++ q ∷ [] → old.out ≡ popped.out → WritesGroup groups p start old
-    → WritesSpan groups q popped new → WritesGroup groups p start new
-group_goes groups p q start old popped new e o f g = λ x s.
+pub group_goes : {q : Span} {old popped : Progress} (groups : SplicedText) (p : Span) (start : List ℕ) (new : Progress)
+    → Pops q old popped → WritesGroup groups p start old → WritesSpan groups q popped new → WritesGroup groups p start new
+group_goes {q = q} {popped = popped} groups p start new o f g = λ x s.
     let t = f x s in
-    let u = waits_pop groups popped.later q t.0 (subst (λ z. SpansHold groups z t.0) e t.1) in
+    let u = waits_pop groups popped.later q t.0 (subst (λ z. SpansHold groups z t.0) o.later t.1) in
     let v = g u.0 u.1 u.2 u.3 in
-    (v.0, v.1, v.2 ∙ ap (λ z. popped.out ++ z) (sym u.4) ∙ ap (λ z. z ++ t.0) (sym o) ∙ t.2)
+    (v.0, v.1, v.2 ∙ ap₂ (λ (y z : List ℕ). y ++ z) o.out (sym u.4) ∙ t.2)
 
 -- spans measure less than before the pop if they measure less than the popped span and the others
 pub group_less : (q : Span) (later rest later' : List Span) → later ≡ rest ++ q ∷ []
@@ -250,6 +254,10 @@ group_less q later rest later' e h = omega (arith, h, ap spans_measure e ∙ mea
 abbrev pub Left : SplicedText → SplicedText → ℕ → List Splice → List ℕ → Type 0
 Left groups text at ks out = (x : List ℕ) → FilledText groups text x → (y : List ℕ) × (at ≤ length text.bytes.items)
     × Holds groups.bytes.items groups.splices.items at (drop at text.bytes.items) ks y × (out ++ y ≡ x)
+
+-- `out` is the text that `text` holds over the groups
+abbrev pub IsFilled : SplicedText → SplicedText → List ℕ → Type 0
+IsFilled groups text out = (x : List ℕ) → FilledText groups text x → out ≡ x
 
 -- before the first byte is written, the whole text is left
 pub fill_begins : (groups text : SplicedText) {ks : List Splice} {out : List ℕ} → out ≡ [] → ks ≡ text.splices.items
@@ -278,8 +286,8 @@ fill_goes groups text {ks = ks} {at = at} {i = i} {splice = splice} {out = out} 
     let all : bs ≡ take at bs ++ (a.before ++ a.behind) = sym (take-append-drop at bs) ∙ ap (λ z. take at bs ++ z) a.bytes in
     let long = ap length all ∙ length-append (take at bs) (a.before ++ a.behind) in
     let within : splice.at ≤ length bs = omega (arith, a.point, long, front, length-append a.before a.behind) in
-    let bytes : f.part ≡ a.before = f.is_part (omega (arith, a.point)) within ∙ between_mid at splice.at bs (take at bs)
-    a.before a.behind all (sym front) a.point in
+    let bytes : f.part ≡ a.before = f.is_part (omega (arith, a.point)) within
+    ∙ between_mid at splice.at (take at bs) _ all (sym front) a.point in
     let behind : drop splice.at bs ≡ a.behind = let far : splice.at ≡ length (take at bs ++ a.before) =
     omega (arith, a.point, front, length-append (take at bs) a.before) in
     ap₂ drop far (all ∙ sym (append_assoc (take at bs) a.before a.behind)) ∙ drop-append_seam
@@ -297,20 +305,20 @@ fill_goes groups text {ks = ks} {at = at} {i = i} {splice = splice} {out = out} 
 -- after the last splice, the output with the bytes up to the end is the whole text
 pub fill_ends : (groups text : SplicedText) {ks : List Splice} {at end : ℕ} {out out' : List ℕ} → ks ≡ []
     → end ≡ length text.bytes.items → AppendsPart text.bytes.items at end out out' → Left groups text at ks out
-    → (x : List ℕ) → FilledText groups text x → out' ≡ x
+    → IsFilled groups text out'
 fill_ends groups text {at = at} {end = end} {out = out} e i f left = λ x u.
     let ms = groups.bytes.items in
     let gs = groups.splices.items in
     let bs = text.bytes.items in
     let t = left x u in
     let plain : t.0 ≡ drop at bs = plain_text (subst (λ z. Holds ms gs at (drop at bs) z t.0) e t.2) in
-    let bytes : f.part ≡ drop at bs = f.is_part (omega (arith, t.1, i)) (omega (arith, i)) ∙ between_end at end bs
-    (take at bs) (drop at bs) (sym (take-append-drop at bs)) (sym (length-take-le at bs t.1)) i in
+    let bytes : f.part ≡ drop at bs = f.is_part (omega (arith, t.1, i)) (omega (arith, i)) ∙ between_end at end (take at bs)
+    (sym (take-append-drop at bs)) (sym (length-take-le at bs t.1)) i in
     f.appended ∙ ap (λ z. out ++ z) (bytes ∙ sym plain) ∙ t.3
 
 -- `fill_splices` returns early: a text without splices (ks, which are its splices) holds its own bytes
 pub fill_without_splices : (groups text : SplicedText) {ks : List Splice} → ks ≡ text.splices.items
-    → nat_eq (length ks) 0 ≡ true → (x : List ℕ) → FilledText groups text x → text.bytes.items ≡ x
+    → nat_eq (length ks) 0 ≡ true → IsFilled groups text text.bytes.items
 fill_without_splices groups text {ks = ks} e f = λ x u.
     sym (plain_text (subst (λ z. Holds groups.bytes.items groups.splices.items 0 text.bytes.items z x) (sym e ∙ empty ks f) u))
   where

@@ -69,9 +69,3 @@ first_eight (a ∷ b ∷ c ∷ d ∷ e ∷ []) = omega arith
 first_eight (a ∷ b ∷ c ∷ d ∷ e ∷ f ∷ []) = omega arith
 first_eight (a ∷ b ∷ c ∷ d ∷ e ∷ f ∷ g ∷ []) = omega arith
 first_eight (a ∷ b ∷ c ∷ d ∷ e ∷ f ∷ g ∷ h ∷ s) = omega arith
-
--- eight bytes equal to those of s, 0 for each missing one, are the big-endian bytes of `leading_number 8 s`
-pub eight_of : (s : List ℕ) {a b c d e f g h : ℕ} → a ≡ get_or s 0 0 → b ≡ get_or s 1 0 → c ≡ get_or s 2 0
-    → d ≡ get_or s 3 0 → e ≡ get_or s 4 0 → f ≡ get_or s 5 0 → g ≡ get_or s 6 0 → h ≡ get_or s 7 0
-    → from_be_bytes w64 (a ∷ b ∷ c ∷ d ∷ e ∷ f ∷ g ∷ h ∷ []) ≡ leading_number 8 s
-eight_of s i j k l m n o p = omega (arith, i, j, k, l, m, n, o, p, first_eight s)

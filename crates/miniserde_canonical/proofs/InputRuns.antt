@@ -4,10 +4,12 @@ use Rattle.std.proofs.Common.{◌≡◌, ◌≤◌, ◌-◌, ◌+◌, ℕ, ℤ, 
 use Rattle.std.proofs.Common.{length, refl, sym, ap, subst, ◌∙◌, append_assoc, append-nil, arith, length-append}
 use Rattle.std.proofs.lemmas.Int.{ints}
 use Rattle.std.proofs.lemmas.Fmt.{decimal_digit}
+use Rattle.miniserde_model.specs.Ascii.{digit_0}
 use Rattle.miniserde_model.specs.Tree.{neg, num}
 use Rattle.miniserde_model.specs.Compact.{compact, string_text}
 use Rattle.miniserde_model.specs.Number.{IsNumber}
 use Rattle.miniserde_model.specs.Normal.{norm_neg}
+use Rattle.miniserde_model.specs.Tokens.{Token}
 use Rattle.miniserde_model.proofs.Accepted.{value_tree, tells}
 use Rattle.miniserde_model.proofs.Shortest.{nonneg_text, neg_text}
 use Rattle.miniserde_text.specs.Lexer.{event_of_token, text_of}
@@ -77,7 +79,7 @@ flushed {d = d} {d' = d'} f = λ rest bs w e.
     let to : f.to ≡ f.from + length w.run = omega (arith, f.from_is, f.to_is, long, w.left, tail, e) in
     let within : f.to ≤ length d.input.now = omega (arith, f.to_is) in
     let is : f.piece ≡ w.run = f.is_part (omega (arith, to)) within
-    ∙ between_mid f.from f.to d.input.now w.front w.run rest w.input from to in
+    ∙ between_mid f.from f.to w.front _ w.input from to in
     let out : d'.out.bytes.items ≡ bs = f.appended ∙ ap (λ z. d.out.bytes.items ++ z) is ∙ w.text in
     (rewound [] w refl (record { input = f.input; left = e; text_is = out }), out)
 
@@ -89,18 +91,27 @@ as_negative (pos zero) part p n = absurd (n refl)
 as_negative (pos (suc k)) part p n = let low = (value_tree (neg (pos (suc k))) part p).0 in absurd (omega (arith, ints, low))
 as_negative (negsuc k) part p n = sym (neg_text part (negsuc k) p)
 
+-- the token is no string, no number with a minus and no `{`
+pub record IsOtherToken (e : Event) : Type 0 where
+  pub not_negative : (z : ℤ) → e ≡ event.Negative z → ⊥
+  pub not_string : (t : Text) → e ≡ event.Str t → ⊥
+  pub not_object : e ≡ event.MapStart → ⊥
+
+-- each step of the token k appends the bytes x
+abbrev pub StepAdds : Token → List ℕ → Type 0
+StepAdds k x = (s s' : State) → TokenStep k s s' → AddsBytes x s s'
+
 -- the step of a token other than a string, a number with a minus or `{` appends the bytes of the token
-pub as_it_is : (e : Event) (scratch part : List ℕ) (s s' : State) → PartIsToken e scratch part
-    → ((z : ℤ) → e ≡ event.Negative z → ⊥) → ((t : Text) → e ≡ event.Str t → ⊥) → (e ≡ event.MapStart → ⊥)
-    → TokenStep (first_token (event_of_token e scratch)) s s' → AddsBytes part s s'
-as_it_is event.Null scratch part s s' p n m o h = subst (λ z. AddsBytes z s s') (sym p.0) h.0
-as_it_is (event.Bool b) scratch part s s' p n m o h = subst (λ z. AddsBytes z s s') (sym p.0) h.0
-as_it_is (event.Negative z) scratch part s s' p n m o h = absurd (n z refl)
-as_it_is (event.Nonnegative k) scratch part s s' p n m o h = subst (λ z. AddsBytes z s s') (nonneg_text part k p.0) h.0
-as_it_is (event.Number x) scratch part s s' p n m o h = subst (λ z. AddsBytes z s s') (sym (tells part (num x.now) p.0)) h.0
-as_it_is (event.Str t) scratch part s s' p n m o h = absurd (m t refl)
-as_it_is event.SeqStart scratch part s s' p n m o h = subst (λ z. AddsBytes z s s') (sym p.0) h.0
-as_it_is event.MapStart scratch part s s' p n m o h = absurd (o refl)
+pub as_it_is : (e : Event) (scratch part : List ℕ) → IsOtherToken e → PartIsToken e scratch part
+    → StepAdds (first_token (event_of_token e scratch)) part
+as_it_is event.Null scratch part o p = λ s s' h. subst (λ z. AddsBytes z s s') (sym p.0) h.0
+as_it_is (event.Bool b) scratch part o p = λ s s' h. subst (λ z. AddsBytes z s s') (sym p.0) h.0
+as_it_is (event.Negative z) scratch part o p = absurd (o.not_negative z refl)
+as_it_is (event.Nonnegative k) scratch part o p = λ s s' h. subst (λ z. AddsBytes z s s') (nonneg_text part k p.0) h.0
+as_it_is (event.Number x) scratch part o p = λ s s' h. subst (λ z. AddsBytes z s s') (sym (tells part (num x.now) p.0)) h.0
+as_it_is (event.Str t) scratch part o p = absurd (o.not_string t refl)
+as_it_is event.SeqStart scratch part o p = λ s s' h. subst (λ z. AddsBytes z s s') (sym p.0) h.0
+as_it_is event.MapStart scratch part o p = absurd (o.not_object refl)
 
 -- where the run would end
 pub run_length : {d : Draft} {rest bs : List ℕ} (at point : ℕ) → Wrote d rest bs → at ≡ length rest
@@ -108,12 +119,11 @@ pub run_length : {d : Draft} {rest bs : List ℕ} (at point : ℕ) → Wrote d r
 run_length {d = d} {rest = rest} at point w e f =
     omega (arith, e, f, w.left, length-append w.run rest, ap length w.text, length-append d.out.bytes.items w.run)
 
--- the step of a string that is borrowed appends its bytes in the input
-pub string_stands : (t : Text) (scratch part : List ℕ) (s s' : State) → (t ≡ Scratch → ⊥) → TextSpelled t part
-    → AddsBytes (string_text (text_of t scratch)) s s' → AddsBytes part s s'
-string_stands (Input x) scratch part s s' n p a = subst (λ z. AddsBytes z s s') (sym p) a
-string_stands Scratch scratch part s s' n p a = absurd (n refl)
+-- the bytes of a string that is borrowed are its compact text
+pub string_stands : (t : Text) (scratch part : List ℕ) → (t ≡ Scratch → ⊥) → TextSpelled t part → string_text (text_of t scratch) ≡ part
+string_stands (Input x) scratch part n p = sym p
+string_stands Scratch scratch part n p = absurd (n refl)
 
 -- the decimal text of 0 is `0`
-pub decimal_zero : decimal 0 ≡ 48 ∷ []
+pub decimal_zero : decimal 0 ≡ digit_0 ∷ []
 decimal_zero = decimal_digit 0 (omega arith)

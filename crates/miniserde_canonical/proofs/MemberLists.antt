@@ -10,17 +10,16 @@ use Rattle.std.specs.List.Sorted.{IsStableBy, ties}
 use Rattle.std.proofs.lemmas.Cmp.{nat_list_cmp_total, tied_itself}
 use Rattle.std.proofs.lemmas.Map.Lookups.{exact_bytes}
 use Rattle.std.proofs.lemmas.Slice.Eq.{bytes_eq-Decides}
-use Rattle.std.proofs.lemmas.List.{drop_all}
 use Rattle.miniserde_model.specs.Tree.{Tree, str, Members, no_members, member}
 use Rattle.miniserde_model.specs.Normal.{text_cmp, norm_neg, norm, norm_members, or_else, last_of, BeginsAbove, Rise}
 use Rattle.miniserde_model.proofs.Lookups.{or_else_none}
 use Rattle.miniserde_model.proofs.OneNormal.{norm_only}
 use Rattle.miniserde_canonical.specs.declared.member.Member.{Member}
 use Rattle.miniserde_canonical.specs.private.MemberNames.{name_of}
-use Rattle.miniserde_canonical.specs.private.Members.{first_name, name_in, NamesRise, named_members, members_at}
+use Rattle.miniserde_canonical.specs.private.Members.{name_in, NamesRise, named_members, members_at}
 use Rattle.miniserde_canonical.specs.private.Members.{begins_with_name, without_repeats}
 use Rattle.miniserde_canonical.specs.private.States.{MemberEntry, text_before, entry_members, count}
-use Rattle.miniserde_canonical.specs.private.SortMembers.{text_at, own_text_tree}
+use Rattle.miniserde_canonical.specs.private.SortMembers.{own_text_tree}
 
 -- ---- names and entries
 
@@ -39,29 +38,25 @@ numbers_more a n = ap (range_with_len a) (add-one n) ∙ more a n
     more a (suc n) = let same : a + 1 + n ≡ a + suc n =
         omega arith in ap (λ z. a ∷ z) (more (a + 1) n ∙ ap (λ z. range_with_len (a + 1) n ++ z ∷ []) same)
 
-drop_tail : {X : Type 0} (i : ℕ) (xs : List X) (y : X) (ys : List X) → drop i xs ≡ y ∷ ys → drop (i + 1) xs ≡ ys
-drop_tail {X = X} i xs y ys e = ap (λ z. drop z xs) (add-one i) ∙ tail i xs e
-  where
-    tail : (i : ℕ) (xs : List X) → drop i xs ≡ y ∷ ys → drop (suc i) xs ≡ ys
-    tail i [] e = absurd (omega (arith, ap length (sym (drop_all {X = X} i [] (omega arith)) ∙ e)))
-    tail zero (x ∷ xs) e = let same : xs ≡ ys = cc in same
-    tail (suc i) (x ∷ xs) e = tail i xs e
+-- without the first member and its entry, each of the others stands at the index before
+rows_later : (n : Member) (e : MemberEntry) (ns : List Member) (es : List MemberEntry) (last : List ℕ) (i k : ℕ)
+    → members_at (n ∷ ns) (own_text_tree (e ∷ es) last) (range_with_len (suc i) k)
+    ≡ members_at ns (own_text_tree es last) (range_with_len i k)
+rows_later n e ns es last i zero = refl
+rows_later n e ns es last i (suc k) =
+    let next : suc i + 1 ≡ suc (i + 1) = omega arith in
+    ap (λ z. member (name_in ns i) (own_text_tree es last i) z)
+    (ap (λ z. members_at (n ∷ ns) (own_text_tree (e ∷ es) last) (range_with_len z k)) next ∙ rows_later n e ns es last (i + 1) k)
 
-rows_from : (i : ℕ) (all ns : List Member) (alles es : List MemberEntry) (last : List ℕ) → drop i all ≡ ns
-    → drop i alles ≡ es → Agree ns es → members_at all (own_text_tree alles last) (range_with_len i (length ns))
-    ≡ entry_members es last
-rows_from i all [] alles [] last e f a = refl
-rows_from i all (n ∷ ns) alles (x ∷ es) last e f a =
-    ap₂ (λ (p : List Member) (q : List MemberEntry). member (first_name p) (str (text_at q last))
-    (members_at all (own_text_tree alles last) (range_with_len (i + 1) (length ns)))) e f
-    ∙ ap₂ (λ (p : List ℕ) (q : Members). member p (str (text_before es last)) q) a.0
-    (rows_from (i + 1) all ns alles es last (drop_tail i all n ns e) (drop_tail i alles x es f) a.1)
-rows_from i all [] alles (x ∷ es) last e f a = absurd a
-rows_from i all (n ∷ ns) alles [] last e f a = absurd a
-
+-- members that agree with entries, each with its own text in the place of its tree, are the entries as members
 pub rows_all : (ns : List Member) (es : List MemberEntry) (last : List ℕ) → Agree ns es
     → members_at ns (own_text_tree es last) (range_with_len 0 (length ns)) ≡ entry_members es last
-rows_all ns es last a = rows_from 0 ns ns es es last refl refl a
+rows_all [] [] last a = refl
+rows_all (n ∷ ns) (e ∷ es) last a =
+    ap₂ (λ (p : List ℕ) (q : Members). member p (str (text_before es last)) q) a.0
+    (rows_later n e ns es last 0 (length ns) ∙ rows_all ns es last a.1)
+rows_all [] (e ∷ es) last a = absurd a
+rows_all (n ∷ ns) [] last a = absurd a
 
 -- members that agree with entries are as many as the entries
 pub ended_count : (ns : List Member) (es : List MemberEntry) (last : List ℕ) → Agree ns es → count (entry_members es last) ≡ length ns

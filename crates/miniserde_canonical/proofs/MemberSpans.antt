@@ -1,11 +1,10 @@
 -- The span of each member of an object holds its text. By recursion over the index: `own_tail` removes the first
 -- member until `own_first` reads the span of the member asked for.
 use Rattle.std.proofs.Common.{◌≡◌, ◌≤◌, ◌-◌, ◌+◌, ℕ, zero, suc, List, [], ◌∷◌, ◌++◌, length, drop, refl, sym, ap}
-use Rattle.std.proofs.Common.{subst, ◌∙◌, append_assoc, arith, length-append}
+use Rattle.std.proofs.Common.{◌∙◌, append_assoc, arith, length-append}
 use Rattle.std.proofs.lemmas.List.{drop_all}
 use Rattle.miniserde_model.specs.Tokens.{comma_before}
 use Rattle.miniserde_canonical.specs.declared.spread.Point.{Point}
-use Rattle.miniserde_canonical.specs.declared.spread.Splice.{Splice}
 use Rattle.miniserde_canonical.specs.declared.spread.SplicedText.{SplicedText}
 use Rattle.miniserde_canonical.specs.declared.member.Member.{Member}
 use Rattle.miniserde_canonical.specs.private.SplicedTexts.{part_between, Holds, none, text_begin, TextFrom, text_from}
@@ -22,32 +21,22 @@ HoldsBetween groups out a b x =
     × Holds groups.bytes.items groups.splices.items a.bytes (part_between a.bytes b.bytes out.bytes.items)
     (part_between a.splices b.splices out.splices.items) x
 
-holds_between : (groups out : SplicedText) (a b : Point) {x y : List ℕ} {h : List Splice}
-    → (a.bytes ≤ b.bytes) × (b.bytes ≤ length out.bytes.items) × (a.splices ≤ b.splices) × (b.splices ≤ length out.splices.items)
-    → part_between a.bytes b.bytes out.bytes.items ≡ y → part_between a.splices b.splices out.splices.items ≡ h
-    → Holds groups.bytes.items groups.splices.items a.bytes y h x → HoldsBetween groups out a b x
-holds_between groups out a b {x = x} {y = y} w e f u = (
-  w,
-  subst (λ z. Holds groups.bytes.items groups.splices.items a.bytes z (part_between a.splices b.splices out.splices.items) x)
-      (sym e) (subst (λ z. Holds groups.bytes.items groups.splices.items a.bytes y z x) (sym f) u),
-)
-
 own_first : {n : Member} (ns : List Member) {e : MemberEntry} (es : List MemberEntry) (groups : SplicedText) {out : SplicedText}
     (last : List ℕ) (end : Point) → IsEnd end out → EndsWithMembers (n ∷ ns) (e ∷ es) groups out last
     → HoldsBetween groups out n.point (before_comma ns end) (text_before es last)
 own_first {n = n} [] {e = e} [] groups {out = out} last end i o =
-    let bs = out.bytes.items in
-    let hs = out.splices.items in
     let long = ap length o.bytes ∙ length-append o.before o.behind in
     let many = ap length o.splices ∙ length-append o.splices_before o.splices_behind in
-    holds_between groups out n.point end (
-      omega (arith, i.bytes, o.begins, long),
-      omega (arith, i.bytes),
-      omega (arith, i.splices, o.begins_splices, many),
-      omega (arith, i.splices),
+    let bytes = between_end n.point.bytes end.bytes o.before o.bytes o.begins i.bytes in
+    let splices = between_end n.point.splices end.splices o.splices_before o.splices o.begins_splices i.splices in (
+      (
+        omega (arith, i.bytes, o.begins, long),
+        omega (arith, i.bytes),
+        omega (arith, i.splices, o.begins_splices, many),
+        omega (arith, i.splices),
+      ),
+      rw (bytes, splices) o.is_behind,
     )
-    (between_end n.point.bytes end.bytes bs o.before o.behind o.bytes o.begins i.bytes)
-    (between_end n.point.splices end.splices hs o.splices_before o.splices_behind o.splices o.begins_splices i.splices) o.is_behind
 own_first {n = n} (m ∷ ns) {e = e} (f ∷ es) groups {out = out} last end i o =
     let bs = out.bytes.items in
     let hs = out.splices.items in
@@ -60,16 +49,16 @@ own_first {n = n} (m ∷ ns) {e = e} (f ∷ es) groups {out = out} last end i o 
     let long = ap length text ∙ length-append o.before (r.before ++ (comma_before f.first ++ r.behind)) in
     let more = length-append r.before (comma_before f.first ++ r.behind) in
     let many = ap length splices ∙ length-append o.splices_before (r.splices_before ++ r.splices_behind) in
-    holds_between groups out n.point (before_comma (m ∷ ns) end) (
-      omega (arith, wide),
-      omega (arith, wide, o.begins, long, more),
-      omega (arith, r.begins_splices),
-      omega (arith, r.begins_splices, o.begins_splices, many, length-append r.splices_before r.splices_behind),
+    let own = between_mid n.point.bytes (m.point.bytes - length (comma_before m.first)) o.before _ text o.begins wide in
+    let own_splices = between_mid n.point.splices m.point.splices o.splices_before _ splices o.begins_splices r.begins_splices in (
+      (
+        omega (arith, wide),
+        omega (arith, wide, o.begins, long, more),
+        omega (arith, r.begins_splices),
+        omega (arith, r.begins_splices, o.begins_splices, many, length-append r.splices_before r.splices_behind),
+      ),
+      rw (own, own_splices) r.is_before,
     )
-    (between_mid n.point.bytes (m.point.bytes - length (comma_before m.first)) bs o.before r.before
-    (comma_before f.first ++ r.behind) text o.begins wide)
-    (between_mid n.point.splices m.point.splices hs o.splices_before r.splices_before r.splices_behind splices o.begins_splices
-    r.begins_splices) r.is_before
 own_first [] (f ∷ es) groups last end i o = absurd o.is_behind
 own_first (m ∷ ns) [] groups last end i o = absurd o.is_behind
 
@@ -101,10 +90,9 @@ own_tail (m ∷ ns) [] groups last o = absurd o.is_behind
 own_none : (ns : List Member) (es : List MemberEntry) (groups : SplicedText) {out : SplicedText} (last : List ℕ) {end : Point}
     → IsEnd end out → ns ≡ [] → es ≡ [] → HoldsBetween groups out (begin_of ns end) (end_of ns end) (text_at es last)
 own_none [] [] groups {out = out} last {end = end} i e f =
-    holds_between groups out end end
-    (omega arith, omega (arith, i.bytes), omega arith, omega (arith, i.splices))
-    (between_none end.bytes end.bytes out.bytes.items (omega arith))
-    (between_none end.splices end.splices out.splices.items (omega arith)) none
+    let bytes = between_none end.bytes end.bytes out.bytes.items (omega arith) in
+    let splices = between_none end.splices end.splices out.splices.items (omega arith) in
+    ((omega arith, omega (arith, i.bytes), omega arith, omega (arith, i.splices)), rw (bytes, splices) none)
 own_none (n ∷ ns) es groups last i e f = absurd (omega (arith, ap length e))
 own_none [] (x ∷ es) groups last i e f = absurd (omega (arith, ap length f))
 

@@ -2,6 +2,7 @@
 -- tokens so far, the steps over them from the start, and a draft that represents the state after them.
 use Rattle.std.proofs.Common.{◌≡◌, ◌≤◌, ℕ, Bool, true, false, None, is_some, List, [], ◌∷◌, ◌++◌, length, refl, sym}
 use Rattle.std.proofs.Common.{ap, subst, ◌∙◌, arith, length-append, append_assoc}
+use Rattle.miniserde_model.specs.Ascii.{begin_array, end_array, begin_object, end_object, name_separator, value_separator}
 use Rattle.miniserde_model.specs.Tree.{Tree}
 use Rattle.miniserde_model.specs.Value.{IsJson}
 use Rattle.miniserde_model.specs.Whitespace.{IsWhitespace}
@@ -47,10 +48,10 @@ fronted (leaf t) s = record {
   first = false;
   distinct = s.distinct;
 }
-fronted array s = record { entries = s.entries; last = s.last ++ 91 ∷ []; opened = s.opened; first = true; distinct = s.distinct }
+fronted array s = record { entries = s.entries; last = s.last ++ begin_array ∷ []; opened = s.opened; first = true; distinct = s.distinct }
 fronted object s = record {
   entries = s.entries;
-  last = s.last ++ 123 ∷ [];
+  last = s.last ++ begin_object ∷ [];
   opened =
       s.opened ++ length s.entries ∷ [];
   first = true;
@@ -126,7 +127,7 @@ pub takes_name : {rest mid at rest' : List ℕ} {d d1 d2 d' : Draft} (f : Bool) 
 takes_name {mid = mid} f n behind k e w g = λ s r h.
     let s' : State = record {
       entries = s.entries ++ record { earlier_text = s.last; first = s.first; name = n } ∷ [];
-      last = string_text n ++ 58 ∷ [];
+      last = string_text n ++ name_separator ∷ [];
       opened = s.opened;
       first = s.first;
       distinct = s.distinct;
@@ -143,22 +144,22 @@ abbrev ended : ℕ → State → State
 ended b s = record { entries = s.entries; last = s.last ++ b ∷ []; opened = s.opened; first = false; distinct = s.distinct }
 
 -- a draft takes the end of an array if it leaves out whitespace; the bracket joins the run
-pub takes_array_end : {rest mid rest' : List ℕ} {d d' : Draft} (m : Moment) → LeavesOut d d' rest mid → mid ≡ 93 ∷ rest'
+pub takes_array_end : {rest mid rest' : List ℕ} {d d' : Draft} (m : Moment) → LeavesOut d d' rest mid → mid ≡ end_array ∷ rest'
     → DraftTakes (draft_at m rest d) (array_end ∷ []) (draft_at after rest' d')
 takes_array_end {rest' = rest'} m k e = λ s r h.
-    let t = ended 93 s in
-    (t, (t, ((refl, refl, refl, refl), refl), refl), stays (93 ∷ []) rest' (refl, refl, refl, refl) (skipped k r) e, refl)
+    let t = ended end_array s in
+    (t, (t, ((refl, refl, refl, refl), refl), refl), stays (end_array ∷ []) rest' (refl, refl, refl, refl) (skipped k r) e, refl)
 
 -- a draft takes the end of an object if it leaves out whitespace, and then closes the object; the bracket joins the run
 pub takes_object_end : {rest mid rest' : List ℕ} {d d1 : Draft} (m : Moment) (d' : Draft) → LeavesOut d d1 rest mid
-    → mid ≡ 125 ∷ rest' → ((s : State) → Represents d1 mid s → (n : State) × Closes s n × Represents d' mid n)
+    → mid ≡ end_object ∷ rest' → ((s : State) → Represents d1 mid s → (n : State) × Closes s n × Represents d' mid n)
     → DraftTakes (draft_at m rest d) (object_end ∷ []) (draft_at after rest' d')
 takes_object_end {rest' = rest'} m d' k e f = λ s r h.
     let q = f s (skipped k r) in
-    let t = ended 125 q.0 in (
+    let t = ended end_object q.0 in (
       t,
       (t, (q.0, q.1, (refl, refl, refl, refl), refl), refl),
-      stays (125 ∷ []) rest' (refl, refl, refl, refl) q.2 e,
+      stays (end_object ∷ []) rest' (refl, refl, refl, refl) q.2 e,
       refl,
     )
 
@@ -225,8 +226,8 @@ follows_less k false false s r p = stands_less s r p
 
 -- ---- behind whitespace
 
-stands_behind : {P : List ℕ → Type 0} (s m r : List ℕ) → Blank s m → Stands P m r → Stands P s r
-stands_behind s m r b p =
+stands_behind : {P : List ℕ → Type 0} {s m r : List ℕ} → Blank s m → Stands P m r → Stands P s r
+stands_behind {r = r} b p =
     record {
       space = b.space ++ p.space;
       part = p.part;
@@ -238,44 +239,44 @@ stands_behind s m r b p =
     }
 
 -- if m is s without its first whitespace and begins with a value's first token, so does s
-pub starts_behind : (s m : List ℕ) (e : Step) (r : List ℕ) → Blank s m → Starts m e r → Starts s e r
-starts_behind s m e r b p = (stands_behind s m r b p.0, p.1)
+pub starts_behind : {s m : List ℕ} (e : Step) (r : List ℕ) → Blank s m → Starts m e r → Starts s e r
+starts_behind e r b p = (stands_behind b p.0, p.1)
 
 -- if m is s without its first whitespace and begins with a name, so does s
-pub names_behind : (s m n r : List ℕ) → Blank s m → Names m n r → Names s n r
-names_behind s m n r b p = stands_behind s m r b p
+pub names_behind : {s m : List ℕ} (n r : List ℕ) → Blank s m → Names m n r → Names s n r
+names_behind n r b p = stands_behind b p
 
 -- if m is s without its first whitespace, what follows in m inside a container follows in s
-pub follows_behind : (k : Kind) (f c : Bool) (s m r : List ℕ) → Blank s m → Follows k f c m r → Follows k f c s r
-follows_behind k f true s m r b p = stands_behind s m r b p
-follows_behind k true false s m r b p = (stands_behind s m r b p.0, p.1)
-follows_behind k false false s m r b p = stands_behind s m r b p
+pub follows_behind : {s m : List ℕ} (k : Kind) (f c : Bool) (r : List ℕ) → Blank s m → Follows k f c m r → Follows k f c s r
+follows_behind k f true r b p = stands_behind b p
+follows_behind k true false r b p = (stands_behind b p.0, p.1)
+follows_behind k false false r b p = stands_behind b p
 
 -- what stands behind whitespace stands at its end
-stands_at : {P : List ℕ → Type 0} (s m r : List ℕ) → Blank s m → (p : Stands P s r) → StopsAt is_space (p.part ++ r) → Stands P m r
-stands_at s m r b p h =
+stands_at : {P : List ℕ → Type 0} {s m r : List ℕ} → Blank s m → (p : Stands P s r) → StopsAt is_space (p.part ++ r) → Stands P m r
+stands_at {m = m} {r = r} b p h =
     let same = same_run is_space b.space p.space m (p.part ++ r) (whitespace_passes b.space b.white)
     (whitespace_passes p.space p.white) b.stops h (sym b.text ∙ p.text) in
     record { space = []; part = p.part; text = same.1; white = tt; is_part = p.is_part }
 
 -- if m is s without its first whitespace and s begins with a value's first token, so does m
-pub starts_at : (s m : List ℕ) (e : Step) (r : List ℕ) → Blank s m → Starts s e r → Starts m e r
-starts_at s m e r b p = (stands_at s m r b p.0 (piece_no_space e p.0.part r p.0.is_part), p.1)
+pub starts_at : {s m : List ℕ} (e : Step) (r : List ℕ) → Blank s m → Starts s e r → Starts m e r
+starts_at e r b p = (stands_at b p.0 (piece_no_space e p.0.part r p.0.is_part), p.1)
 
 -- if m is s without its first whitespace and s begins with a name, so does m
-pub names_at : (s m n r : List ℕ) → Blank s m → Names s n r → Names m n r
-names_at s m n r b p = stands_at s m r b p (name_no_space n p.part r p.is_part)
+pub names_at : {s m : List ℕ} (n r : List ℕ) → Blank s m → Names s n r → Names m n r
+names_at n r b p = stands_at b p (name_no_space n p.part r p.is_part)
 
 byte_stops : (c : ℕ) (part r : List ℕ) → is_space c ≡ false → part ≡ c ∷ [] → StopsAt is_space (part ++ r)
 byte_stops c part r h e = subst (λ z. StopsAt is_space (z ++ r)) (sym e) h
 
 -- if m is s without its first whitespace, what follows in s inside a container follows in m
-pub follows_at : (k : Kind) (f c : Bool) (s m r : List ℕ) → Blank s m → Follows k f c s r → Follows k f c m r
-follows_at Seq f true s m r b p = stands_at s m r b p (byte_stops 93 p.part r refl p.is_part)
-follows_at Map f true s m r b p = stands_at s m r b p (byte_stops 125 p.part r refl p.is_part)
-follows_at k true false s m r b p =
-    (stands_at s m r b p.0 (subst (λ z. StopsAt is_space (z ++ r)) (sym p.0.is_part) (begins_stops r p.1)), p.1)
-follows_at k false false s m r b p = stands_at s m r b p (byte_stops 44 p.part r refl p.is_part)
+pub follows_at : {s m : List ℕ} (k : Kind) (f c : Bool) (r : List ℕ) → Blank s m → Follows k f c s r → Follows k f c m r
+follows_at Seq f true r b p = stands_at b p (byte_stops end_array p.part r refl p.is_part)
+follows_at Map f true r b p = stands_at b p (byte_stops end_object p.part r refl p.is_part)
+follows_at k true false r b p =
+    (stands_at b p.0 (subst (λ z. StopsAt is_space (z ++ r)) (sym p.0.is_part) (begins_stops r p.1)), p.1)
+follows_at k false false r b p = stands_at b p (byte_stops value_separator p.part r refl p.is_part)
 
 -- what is taken between children where no whitespace stands
 pub closing_at : (k : Kind) (f : Bool) (m r : List ℕ) → StopsAt is_space m → Follows k f true m r → m ≡ closing k ∷ r

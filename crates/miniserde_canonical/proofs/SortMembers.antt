@@ -211,7 +211,7 @@ back_short {point = point} {from = from} {to = to} {out = out} {mid = mid} {out'
     let empty : h ≡ [] = no_length h (omega (arith, start.splices, end.splices, many, none_there)) in
     let same : x ≡ b = plain_text (subst (λ z. Holds ms gs (length ms) b z x) empty held.text) in
     let is : bytes_in p groups.bytes.items ≡ b =
-    between_end from.bytes to.bytes groups.bytes.items ms b bytes start.bytes end.bytes in
+    between_end from.bytes to.bytes ms bytes start.bytes end.bytes in
     let no_splice : splices_in p groups.splices.items ≡ [] =
     between_none from.splices to.splices groups.splices.items (omega (arith, none_there)) in
     let out_splices : out'.splices.items ≡ take point.splices out.splices.items ++ [] =
@@ -288,22 +288,34 @@ own_within (n ∷ ns) (e ∷ es) groups out last o = omega (arith, o.begins, ap 
 own_within [] (e ∷ es) groups out last o = absurd o
 own_within (n ∷ ns) [] groups out last o = absurd o
 
--- members put in sorted order into the groups, and then put back, are the members in normal form
-pub settled : {ns : List Member} {from : Point} {order : List ℕ} (d : Member) (old : Texts) (mid : SplicedText)
-    (new : Texts) (n : ℕ) → 0 < length ns → InNameOrder ns order → IsEnd from old.groups → PutsMembers ns order old mid n
-    → PutsBack (get_or ns 0 d).point from (texts old.out mid) new → SortsMembers ns old new (nat_eq n (length ns))
-settled {ns = ns} {order = order} d old mid new n some o end g p = λ es last own.
+-- From `old` to `new` the members ns, of which there is at least one, were put in the order of their names behind the
+-- groups, and from there put back; n of them were put.
+pub record PutsInNameOrder (ns : List Member) (old new : Texts) (n : ℕ) : Type 0 where
+  pub order : List ℕ
+  pub from : Point
+  pub otherwise : Member
+  pub groups : SplicedText
+  pub some : 0 < length ns
+  pub in_order : InNameOrder ns order
+  pub is_end : IsEnd from old.groups
+  pub puts : PutsMembers ns order old groups n
+  pub back : PutsBack (get_or ns 0 otherwise).point from (texts old.out groups) new
+
+-- members put in the order of their names, and then put back, are the members in normal form
+pub settled : {ns : List Member} {old new : Texts} {n : ℕ} → PutsInNameOrder ns old new n → SortsMembers ns old new (nat_eq n (length ns))
+settled {ns = ns} {old = old} {new = new} p = λ es last own.
+    let order = p.order in
     let agree = own_agrees ns es old.groups old.out last own in
-    let t = g es last old.groups own in
+    let t = p.puts es last old.groups own in
     let r = own_text_tree es last in
     let sorted : without_repeats (members_at ns r order) ≡ norm_members (entry_members es last) =
-    kept_normal ns es last order agree o in
+    kept_normal ns es last order agree p.in_order in
     let gains = t.0 in
-    let point = (get_or ns 0 d).point in
-    let here : point ≡ begin_of ns text_begin = first_point ns d some in
+    let point = (get_or ns 0 p.otherwise).point in
+    let here : point ≡ begin_of ns text_begin = first_point ns p.otherwise p.some in
     let within : point.bytes ≤ length old.out.bytes.items =
     subst (λ z. z.bytes ≤ length old.out.bytes.items) (sym here) (own_within ns es old.groups old.out last own) in
-    let back = p old.groups (joined_texts true (without_repeats (members_at ns r order))) gains.appends end within
+    let back = p.back old.groups (joined_texts true (without_repeats (members_at ns r order))) gains.appends p.is_end within
     (gains.all_before (length old.groups.splices.items)) in (
       subst (λ z. PutAt (begin_of ns text_begin) old new (joined_texts true z)) sorted
           (subst (λ z. PutAt z old new (joined_texts true (without_repeats (members_at ns r order)))) here back),

@@ -19,16 +19,17 @@ between_more a b xs ys h i = ap (take (b - a)) (drop-append-le a xs ys (omega ar
     (drop a xs) ys (omega (arith, length-drop a xs))
 
 -- the part of `xs ++ ys` from the length of xs up to the end is ys
-pub between_end : {X : Type 0} (a b : ℕ) (all xs ys : List X) → all ≡ xs ++ ys → a ≡ length xs → b ≡ length all → part_between a b all ≡ ys
-between_end a b all xs ys e f g =
+pub between_end : {X : Type 0} {all ys : List X} (a b : ℕ) (xs : List X) → all ≡ xs ++ ys → a ≡ length xs → b ≡ length all
+    → part_between a b all ≡ ys
+between_end {all = all} {ys = ys} a b xs e f g =
     let at : drop a all ≡ ys = ap₂ drop f e ∙ drop-append_seam xs ys in
     let wide : length ys ≤ b - a = omega (arith, f, g, ap length e, length-append xs ys) in
     ap (take (b - a)) at ∙ take_all (b - a) ys wide
 
 -- the part of `xs ++ (ys ++ zs)` after xs that is as long as ys is ys
-pub between_mid : {X : Type 0} (a b : ℕ) (all xs ys zs : List X) → all ≡ xs ++ (ys ++ zs) → a ≡ length xs
+pub between_mid : {X : Type 0} {all ys : List X} (a b : ℕ) (xs zs : List X) → all ≡ xs ++ (ys ++ zs) → a ≡ length xs
     → b ≡ a + length ys → part_between a b all ≡ ys
-between_mid a b all xs ys zs e f g =
+between_mid {ys = ys} a b xs zs e f g =
     let wide : b - a ≡ length ys = omega (arith, g) in
     ap₂ take wide (ap₂ drop f e ∙ drop-append_seam xs (ys ++ zs)) ∙ take-append_seam ys zs
 
@@ -101,9 +102,9 @@ group_holds {base = base} {groups = groups} {x = x} p from to a =
     let ms = groups.bytes.items in
     let gs = groups.splices.items in
     let bytes : bytes_in p ms ≡ a.bytes =
-    between_end p.from.bytes p.to.bytes ms base.bytes.items a.bytes a.bytes_gained from.bytes to.bytes in
+    between_end p.from.bytes p.to.bytes base.bytes.items a.bytes_gained from.bytes to.bytes in
     let splices : splices_in p gs ≡ a.splices =
-    between_end p.from.splices p.to.splices gs base.splices.items a.splices a.splices_gained from.splices to.splices in
+    between_end p.from.splices p.to.splices base.splices.items a.splices_gained from.splices to.splices in
     let all : Holds ms gs (length base.bytes.items) a.bytes a.splices x =
     rw (a.bytes_gained, a.splices_gained) (holds_more a.bytes a.splices a.text) in (
       (

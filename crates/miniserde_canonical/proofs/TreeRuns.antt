@@ -7,6 +7,7 @@ use Rattle.std.proofs.Math.Bool.{and-true, and_assoc}
 use Rattle.std.proofs.Math.Seq.{take-append_seam, drop-append_seam}
 use Rattle.std.proofs.lemmas.Bool.{eq-eqb}
 use Rattle.std.specs.Ordering.{match_ordering}
+use Rattle.miniserde_model.specs.Ascii.{begin_array, end_array, begin_object, end_object, name_separator, value_separator}
 use Rattle.miniserde_model.specs.Tree.{Tree, str, list, members, Trees, no_trees}
 use Rattle.miniserde_model.specs.Tree.{tree, Members, no_members, member}
 use Rattle.miniserde_model.specs.Compact.{compact, compact_children, compact_more, compact_members, compact_more_members, string_text}
@@ -15,8 +16,8 @@ use Rattle.miniserde_model.specs.Normal.{norm, norm_children, norm_members, with
 use Rattle.miniserde_model.specs.Tokens.{Token, leaf, name, array_end, object, object_end, comma_before}
 use Rattle.miniserde_model.specs.Tokens.{tokens, child_tokens, member_tokens}
 use Rattle.miniserde_canonical.specs.private.States.{MemberEntry, State, initial_state, text_before}
-use Rattle.miniserde_canonical.specs.private.States.{entry_members, joined_texts, entries_text, count, once_each}
-use Rattle.miniserde_canonical.specs.private.States.{Arranged, Closes, TokenStep, TokenSteps}
+use Rattle.miniserde_canonical.specs.private.States.{entry_members, joined_texts, entries_text, count}
+use Rattle.miniserde_canonical.specs.private.States.{AddsBytes, Sorted, Arranged, Closes, TokenStep, TokenSteps}
 use Rattle.miniserde_model.proofs.Lookups.{first_of_all}
 use Rattle.miniserde_canonical.proofs.Repeats.{nested_names_distinct, distinct_counted}
 
@@ -29,7 +30,7 @@ steps_append (k ∷ ks) ls s m s' r p = (r.0, r.1, steps_append ks ls r.0 m s' r
 
 -- ---- what a run adds
 
--- x is added, and d says that no object that was closed had a name twice
+-- from s to s' the text x is added; d says whether no object that was closed had duplicate names
 record Grows (s s' : State) (x : List ℕ) (d : Bool) : Type 0 where
   pub last : s'.last ≡ s.last ++ x
   pub entries : s'.entries ≡ s.entries
@@ -39,33 +40,42 @@ record Grows (s s' : State) (x : List ℕ) (d : Bool) : Type 0 where
 grows_none : (s : State) → Grows s s [] true
 grows_none s = record { last = sym (append-nil s.last); entries = refl; opened = refl; distinct = sym (and-true s.distinct) }
 
-grows_append : (s m s' : State) (x y : List ℕ) (d e : Bool) → Grows s m x d → Grows m s' y e → Grows s s' (x ++ y) (d && e)
-grows_append s m s' x y d e p q = record {
+-- the bytes x of one token are added
+grows_by : {s s' : State} {x : List ℕ} → AddsBytes x s s' → Grows s s' x true
+grows_by {s = s} a = record { last = a.0; entries = a.1; opened = a.2; distinct = a.3 ∙ sym (and-true s.distinct) }
+
+grows_append : {s m s' : State} {x y : List ℕ} {d e : Bool} → Grows s m x d → Grows m s' y e → Grows s s' (x ++ y) (d && e)
+grows_append {s = s} {x = x} {y = y} {d = d} {e = e} p q = record {
   last = q.last ∙ ap (λ z. z ++ y) p.last ∙ append_assoc s.last x y;
   entries = q.entries ∙ p.entries;
   opened = q.opened ∙ p.opened;
   distinct = q.distinct ∙ ap (λ z. z && e) p.distinct ∙ and_assoc s.distinct d e;
 }
 
-grows_as : (s s' : State) (x y : List ℕ) (d e : Bool) → x ≡ y → d ≡ e → Grows s s' x d → Grows s s' y e
-grows_as s s' x y d e f g p = subst (λ z. Grows s s' z e) f (subst (λ z. Grows s s' x z) g p)
+grows_as : {s s' : State} {x y : List ℕ} {d e : Bool} → x ≡ y → d ≡ e → Grows s s' x d → Grows s s' y e
+grows_as {s = s} {s' = s'} {x = x} {e = e} f g p = subst (λ z. Grows s s' z e) f (subst (λ z. Grows s s' x z) g p)
+
+-- from s to s' one whole value is added, whose text is x (`Grows`), and so no container was just opened
+abbrev Whole : State → State → List ℕ → Bool → Type 0
+Whole s s' x d = Grows s s' x d × (s'.first ≡ false)
 
 -- ---- members
 
--- with the trees in their normal forms, in the order of the text
+-- the members ms with their trees in normal form, still in the order of the text
 abbrev mapped : Members → Members
 mapped no_members = no_members
 mapped (member n t ms) = member n (norm t) (mapped ms)
 
+-- the text of one member: its name, a colon and the compact text of its tree
 abbrev row : List ℕ → Tree → List ℕ
-row n t = string_text n ++ 58 ∷ compact t
+row n t = string_text n ++ name_separator ∷ compact t
 
--- with the texts of the members for trees
+-- the members ms, each with its own text (`row`) as a string in the place of its tree, as `entry_members` has them
 abbrev rows_of : Members → Members
 rows_of no_members = no_members
 rows_of (member n t ms) = member n (str (row n t)) (rows_of ms)
 
--- from a text on, the first of its container or not, up to a last text
+-- a run over the members ms that begins with the text l and the flag f adds the entries es, and ends with the text `last`
 abbrev Lays : List MemberEntry → Members → List ℕ → Bool → List ℕ → Type 0
 Lays [] no_members l f last = last ≡ l
 Lays (e ∷ es) (member n t ms) l f last = (e.earlier_text ≡ l) × (e.first ≡ f) × (e.name ≡ n) × Lays es ms (row n (norm t)) false last
@@ -90,11 +100,12 @@ lines_none s = record {
 }
 
 lines_cons : (n : List ℕ) (t : Tree) (ms : Members) (s : State) {m u s' : State} → TokenStep (name n) s m
-    → Grows m u (compact (norm t)) (names_distinct t) → u.first ≡ false → Lines u s' ms → Lines s s' (member n t ms)
-lines_cons n t ms s {m = m} {u = u} {s' = s'} a g f l =
+    → Whole m u (compact (norm t)) (names_distinct t) → Lines u s' ms → Lines s s' (member n t ms)
+lines_cons n t ms s {u = u} {s' = s'} a w l =
+    let g = w.0 in
     let e : MemberEntry = record { earlier_text = s.last; first = s.first; name = n } in
     let text : u.last ≡ row n (norm t) = g.last ∙ ap (λ z. z ++ compact (norm t)) a.1 ∙ append_assoc (string_text n)
-    (58 ∷ []) (compact (norm t)) in
+    (name_separator ∷ []) (compact (norm t)) in
     record {
       added = e ∷ l.added;
       entries = l.entries ∙ ap (λ z. z ++ l.added) (g.entries ∙ a.0) ∙ append_assoc s.entries (e ∷ []) l.added;
@@ -105,7 +116,7 @@ lines_cons n t ms s {m = m} {u = u} {s' = s'} a g f l =
         refl,
         refl,
         refl,
-        subst (λ z. Lays l.added ms (row n (norm t)) z s'.last) f
+        subst (λ z. Lays l.added ms (row n (norm t)) z s'.last) w.1
             (subst (λ z. Lays l.added ms z u.first s'.last) text l.lays),
       );
     }
@@ -144,7 +155,7 @@ mutual
 
   spelled_more : (ms : Members) → joined_texts false (rows_of ms) ≡ compact_more_members ms
   spelled_more no_members = refl
-  spelled_more (member n t ms) = ap (λ z. 44 ∷ (row n t ++ z)) (spelled_more ms)
+  spelled_more (member n t ms) = ap (λ z. value_separator ∷ (row n t ++ z)) (spelled_more ms)
 
 rows_above : (n : List ℕ) (ms : Members) → BeginsAbove n (rows_of ms) → BeginsAbove n ms
 rows_above n no_members b = tt
@@ -189,8 +200,8 @@ record Made (s s' : State) (l : List ℕ) (ms : Members) : Type 0 where
   pub distinct : s'.distinct ≡ (s.distinct && nat_eq (count (norm_members ms)) (count ms))
 
 made_same : (es : List MemberEntry) (ms : Members) (l : List ℕ) (s s' : State) → Lays es ms l true s.last
-    → Rise (entry_members es s.last) → s'.last ≡ entries_text es s.last → s'.distinct ≡ s.distinct → Made s s' l ms
-made_same es ms l s s' h r e d =
+    → Rise (entry_members es s.last) × (s'.last ≡ entries_text es s.last) × (s'.distinct ≡ s.distinct) → Made s s' l ms
+made_same es ms l s s' h (r, e, d) =
     let n : norm_members ms ≡ mapped ms = rise_norm ms (rows_rise (mapped ms) (subst Rise (lays_ended es ms l true s.last h) r)) in
     let same : nat_eq (count (norm_members ms)) (count ms) ≡ true = eq-eqb _ _ (ap count n ∙ mapped_count ms) in
     record {
@@ -198,12 +209,11 @@ made_same es ms l s s' h r e d =
       distinct = d ∙ sym (and-true s.distinct) ∙ ap (λ z. s.distinct && z) (sym same);
     }
 
-made_sorted : (e : MemberEntry) (es : List MemberEntry) (ms : Members) (l : List ℕ) (s s' : State)
-    → Lays (e ∷ es) ms l true s.last
-    → s'.last ≡ e.earlier_text ++ (comma_before e.first ++ joined_texts true (norm_members (entry_members (e ∷ es) s.last)))
-    → s'.distinct ≡ (s.distinct && once_each (entry_members (e ∷ es) s.last)) → Made s s' l ms
-made_sorted e es no_members l s s' h p d = absurd h
-made_sorted e es (member n t ms) l s s' h p d =
+made_sorted : (es : List MemberEntry) (ms : Members) (l : List ℕ) (s s' : State) → Lays es ms l true s.last → Sorted es s s'
+    → Made s s' l ms
+made_sorted [] ms l s s' h a = absurd a
+made_sorted (e ∷ es) no_members l s s' h a = absurd h
+made_sorted (e ∷ es) (member n t ms) l s s' h (p, d) =
     let r : entry_members (e ∷ es) s.last ≡ rows_of (mapped (member n t ms)) = lays_ended (e ∷ es) (member n t ms) l true s.last h in
     let sorted : norm_members (entry_members (e ∷ es) s.last) ≡ rows_of (norm_members (member n t ms)) =
     ap norm_members r ∙ rows_norm (member n t ms) in
@@ -219,13 +229,12 @@ made_sorted e es (member n t ms) l s s' h p d =
     }
 
 made : (es : List MemberEntry) (ms : Members) (l : List ℕ) (s s' : State) → Lays es ms l true s.last → Arranged es s s' → Made s s' l ms
-made es ms l s s' h (inl a) = made_same es ms l s s' h a.0 a.1 a.2
-made (e ∷ es) ms l s s' h (inr a) = made_sorted e es ms l s s' h a.0 a.1
-made [] ms l s s' h (inr a) = absurd a
+made es ms l s s' h (inl a) = made_same es ms l s s' h a
+made es ms l s s' h (inr a) = made_sorted es ms l s s' h a
 
-object_grows : (ms : Members) (s m u k : State) → TokenStep object s m → Lines m u ms → Closes u k
-    → Grows s k (123 ∷ compact_members (norm_members ms)) (names_distinct_in_members ms)
-object_grows ms s m u k a l c =
+object_grows : {m u : State} (ms : Members) (s k : State) → TokenStep object s m → Lines m u ms → Closes u k
+    → Grows s k (begin_object ∷ compact_members (norm_members ms)) (names_distinct_in_members ms)
+object_grows {m = m} {u = u} ms s k a l c =
     let named : u.entries ≡ s.entries ++ l.added = l.entries ∙ ap (λ z. z ++ l.added) a.1 in
     let within : length s.entries ≤ length u.entries = omega (arith, ap length named, length-append s.entries l.added) in
     let own : drop (length s.entries) u.entries ≡ l.added = ap (drop (length s.entries)) named ∙ drop-append_seam s.entries l.added in
@@ -234,7 +243,7 @@ object_grows ms s m u k a l c =
     let r : Arranged l.added u k = subst (λ z. Arranged z u k) own d.2 in
     let x = made l.added ms m.last u k lays r in
     record {
-      last = x.last ∙ ap (λ z. z ++ compact_members (norm_members ms)) a.0 ∙ append_assoc s.last (123 ∷ [])
+      last = x.last ∙ ap (λ z. z ++ compact_members (norm_members ms)) a.0 ∙ append_assoc s.last (begin_object ∷ [])
           (compact_members (norm_members ms));
       entries = d.1 ∙ ap (take (length s.entries)) named ∙ take-append_seam s.entries l.added;
       opened = d.0;
@@ -251,19 +260,15 @@ children_text f (tree t ts) = comma_before f ++ (compact t ++ children_text fals
 
 more_text : (ts : Trees) → children_text false ts ≡ compact_more ts
 more_text no_trees = refl
-more_text (tree t ts) = ap (λ z. 44 ∷ (compact t ++ z)) (more_text ts)
+more_text (tree t ts) = ap (λ z. value_separator ∷ (compact t ++ z)) (more_text ts)
 
 first_text : (f : Bool) (ts : Trees) → f ≡ true → children_text f ts ≡ compact_children ts
 first_text true no_trees e = refl
 first_text true (tree t ts) e = ap (λ z. compact t ++ z) (more_text ts)
 first_text false ts e = absurd (cc)
 
--- a value ends there
-abbrev Whole : State → State → List ℕ → Bool → Type 0
-Whole s s' x d = Grows s s' x d × (s'.first ≡ false)
-
 leaf_grows : (t : Tree) (s m : State) → TokenStep (leaf t) s m → Whole s m (compact (norm t)) true
-leaf_grows t s m a = (record { last = a.0.0; entries = a.0.1; opened = a.0.2; distinct = a.0.3 ∙ sym (and-true s.distinct) }, a.1)
+leaf_grows t s m a = (grows_by a.0, a.1)
 
 mutual
   tree_grows : (t : Tree) (ks : List Token) (s s' : State) → TokenSteps (tokens t ks) s s'
@@ -272,44 +277,20 @@ mutual
       let m = r.0 in
       let t = children_grow ts (array_end ∷ ks) m s' r.2 in
       let e = t.2 in
-      let begun : Grows s m (91 ∷ []) true =
-      record {
-        last = r.1.0.0;
-        entries = r.1.0.1;
-        opened = r.1.0.2;
-        distinct =
-            r.1.0.3 ∙ sym (and-true s.distinct);
-      } in
-      let closed : Grows t.0 e.0 (93 ∷ []) true =
-      record {
-        last = e.1.0.0;
-        entries = e.1.0.1;
-        opened = e.1.0.2;
-        distinct =
-            e.1.0.3 ∙ sym (and-true t.0.distinct);
-      } in
+      let begun : Grows s m (begin_array ∷ []) true = grows_by r.1.0 in
+      let closed : Grows t.0 e.0 (end_array ∷ []) true = grows_by e.1.0 in
       let inside : Grows m t.0 (compact_children (norm_children ts)) (names_distinct_in_children ts) =
-      grows_as m t.0 _ _ _ _ (first_text m.first (norm_children ts) r.1.1) refl t.1 in
-      let all = grows_append s m e.0 (91 ∷ []) _ true _ begun
-      (grows_append m t.0 e.0 (compact_children (norm_children ts)) (93 ∷ []) (names_distinct_in_children ts)
-      true inside closed) in
-      (e.0, (grows_as s e.0 _ _ _ _ refl (and-true (names_distinct_in_children ts)) all, e.1.1), e.2)
+      grows_as (first_text m.first (norm_children ts) r.1.1) refl t.1 in
+      let all = grows_append begun (grows_append inside closed) in
+      (e.0, (grows_as refl (and-true (names_distinct_in_children ts)) all, e.1.1), e.2)
   tree_grows (members ms) ks s s' r =
       let m = r.0 in
       let t = members_grow ms (object_end ∷ ks) m s' r.2 in
       let e = t.2 in
       let k = e.1.0 in
-      let closed : Grows k e.0 (125 ∷ []) true =
-      record {
-        last = e.1.2.0;
-        entries = e.1.2.1;
-        opened = e.1.2.2;
-        distinct =
-            e.1.2.3 ∙ sym (and-true k.distinct);
-      } in
-      let all = grows_append s k e.0 (123 ∷ compact_members (norm_members ms)) (125 ∷ [])
-      (names_distinct_in_members ms) true (object_grows ms s m t.0 k r.1 t.1 e.1.1) closed in
-      (e.0, (grows_as s e.0 _ _ _ _ refl (and-true (names_distinct_in_members ms)) all, e.1.3), e.2)
+      let closed : Grows k e.0 (end_object ∷ []) true = grows_by e.1.2 in
+      let all = grows_append (object_grows ms s k r.1 t.1 e.1.1) closed in
+      (e.0, (grows_as refl (and-true (names_distinct_in_members ms)) all, e.1.3), e.2)
   tree_grows t ks s s' r = (r.0, leaf_grows t s r.0 r.1, r.2)
 
   children_grow : (ts : Trees) (ks : List Token) (s s' : State) → TokenSteps (child_tokens ts ks) s s'
@@ -319,12 +300,10 @@ mutual
       let m = r.0 in
       let u = tree_grows t (child_tokens ts ks) m s' r.2 in
       let v = children_grow ts ks u.0 s' u.2 in
-      let begun : Grows s m (comma_before s.first) true =
-      record { last = r.1.0; entries = r.1.1; opened = r.1.2; distinct = r.1.3 ∙ sym (and-true s.distinct) } in
+      let begun : Grows s m (comma_before s.first) true = grows_by r.1 in
       let rest : Grows u.0 v.0 (children_text false (norm_children ts)) (names_distinct_in_children ts) =
-      grows_as u.0 v.0 _ _ _ _ (ap (λ z. children_text z (norm_children ts)) u.1.1) refl v.1 in
-      let all = grows_append m u.0 v.0 (compact (norm t)) _ (names_distinct t) _ u.1.0 rest in
-      (v.0, grows_append s m v.0 (comma_before s.first) _ true _ begun all, v.2)
+      grows_as (ap (λ z. children_text z (norm_children ts)) u.1.1) refl v.1 in
+      (v.0, grows_append begun (grows_append u.1.0 rest), v.2)
 
   members_grow : (ms : Members) (ks : List Token) (s s' : State) → TokenSteps (member_tokens ms ks) s s'
       → (m : State) × Lines s m ms × TokenSteps ks m s'
@@ -332,7 +311,7 @@ mutual
   members_grow (member n t ms) ks s s' r =
       let u = tree_grows t (member_tokens ms ks) r.0 s' r.2 in
       let v = members_grow ms ks u.0 s' u.2 in
-      (v.0, lines_cons n t ms s r.1 u.1.0 u.1.1 v.1, v.2)
+      (v.0, lines_cons n t ms s r.1 u.1 v.1, v.2)
 
 -- a run over a tree's tokens makes the canonical text and no entries, and `distinct` is `names_distinct`
 pub steps_make : (t : Tree) (s : State) → TokenSteps (tokens t []) initial_state s → (s.last ≡ compact (norm t)) × (s.entries ≡ [])

@@ -24,13 +24,11 @@ compact_children-append f [] ys p q = absurd (omega (arith, p))
 compact_children-append f (x ∷ xs) [] p q = absurd (omega (arith, q))
 compact_children-append f (x ∷ xs) (y ∷ ys) p q = grind (arith, append_assoc {A = ℕ}, compact_more-append f xs (y ∷ ys))
 
--- The items are those of xs and then those of ys, and neither list is empty. The text of the list is `[`, the text of xs, a
--- comma, the text of ys and `]`.
-pub compact_parts : {A : Type 0} (f : A → Tree) (xs ys : List A) {items : List A} (old : List ℕ) {opened front mid all : List ℕ}
-    → xs ++ ys ≡ items → 0 < length xs → 0 < length ys → opened ≡ old ++ 91 ∷ []
-    → front ≡ opened ++ compact_children (trees_of f xs) → mid ≡ front ++ 44 ∷ []
-    → all ≡ mid ++ compact_children (trees_of f ys) → all ++ 93 ∷ [] ≡ old ++ compact (list (trees_of f items))
-compact_parts f xs ys old e p q o h m a = rw (a, m, h, o, sym e, compact_children-append f xs ys p q) (simp append_assoc refl)
+-- if neither xs nor ys is empty, the text of both in one list is `[`, the text of xs, a comma, the text of ys and `]`
+pub compact_parts : {A : Type 0} (f : A → Tree) (xs ys : List A) (old : List ℕ) → 0 < length xs → 0 < length ys
+    → ((((old ++ 91 ∷ []) ++ compact_children (trees_of f xs)) ++ 44 ∷ []) ++ compact_children (trees_of f ys)) ++ 93 ∷ []
+    ≡ old ++ compact (list (trees_of f (xs ++ ys)))
+compact_parts f xs ys old p q = rw (compact_children-append f xs ys p q) (simp append_assoc refl)
 
 -- if the trees of xs and those of ys are in range, so are those of both
 pub AllInRange-append : {A : Type 0} (f : A → Tree) (xs ys : List A) → AllInRange (trees_of f xs) → AllInRange (trees_of f ys)
@@ -42,14 +40,14 @@ AllInRange-append f (x ∷ xs) ys h r = (h.0, AllInRange-append f xs ys h.1 r)
 pub took : {A : Type 0} (xs : List A) (i : ℕ) (x : A) → i < length xs → x ≡ get_or xs i x → take (i + 1) xs ≡ take i xs ++ x ∷ []
 took xs i x h e = take_more xs i x h ∙ ap (λ y. take i xs ++ y ∷ []) (sym e)
 
--- The elements xs are x and then `later`, which has one at least. If old and the text of xs make all, so do old, the text
--- of x, a comma and the text of `later`.
+-- The elements xs are x and then `later`, which has one at least. If `old` and the text of xs make `all`, so do `old`, the
+-- text of x, a comma and the text of `later`.
 pub compact_children_later : {A : Type 0} (f : A → Tree) {xs : List A} (later : List A) {x : A} {all : List ℕ} (old : List ℕ)
-    {mid new : List ℕ} → xs ≡ x ∷ later → 0 < length later → old ++ compact_children (trees_of f xs) ≡ all
-    → mid ≡ old ++ compact (f x) → new ≡ mid ++ (44 ∷ []) → new ++ compact_children (trees_of f later) ≡ all
-compact_children_later f [] old e h o m n = absurd (omega (arith, h))
-compact_children_later f (y ∷ ys) old e h o m n =
-    rw (n, m) (simp append_assoc refl) ∙ ap (λ z. old ++ compact_children (trees_of f z)) (sym e) ∙ o
+    → xs ≡ x ∷ later → 0 < length later → old ++ compact_children (trees_of f xs) ≡ all
+    → ((old ++ compact (f x)) ++ 44 ∷ []) ++ compact_children (trees_of f later) ≡ all
+compact_children_later f [] old e h o = absurd (omega (arith, h))
+compact_children_later f (y ∷ ys) old e h o =
+    simp append_assoc refl ∙ ap (λ z. old ++ compact_children (trees_of f z)) (sym e) ∙ o
 
 -- what a last piece makes of the text of all items before it
 pub appends_text : {old new : WriterView} {bs whole : List ℕ} {first : Bool} {r : Result (Unit {0}) Error}

@@ -6,7 +6,7 @@ use Rattle.std.proofs.lemmas.List.{map-append}
 use Rattle.std.proofs.lemmas.Option.{same_Some}
 use Rattle.std.proofs.lemmas.Bool.{false_from_ne_true}
 use Rattle.std.proofs.lemmas.Slice.Eq.{bytes_eq-Decides}
-use Rattle.miniserde_model.specs.Tree.{Tree}
+use Rattle.miniserde_model.specs.Tree.{Tree, Members, no_members, member}
 use Rattle.miniserde_keys.specs.Keys.{Key}
 use Rattle.miniserde_keys.specs.laws.Keys.{ReadsBack}
 use Rattle.miniserde_ser.specs.Trees.{members_of}
@@ -37,19 +37,16 @@ module _ {K : Type 0} (eq : K → K → Bool) (valid : K → Type 0) (content : 
   distinct_names [] r d = tt
   distinct_names (e ∷ es) r d = (all_differ e.0 es r.0 r.1 d.0, distinct_names es r.1 d.1)
 
--- members by the lists of their names and of their trees
-pub members_same : {J K U V : Type 0} (m : J → List ℕ) (n : K → List ℕ) (g : U → Tree) (f : V → Tree)
-    (xs : List (J × U)) (ys : List (K × V)) → map (λ x. m x.0) xs ≡ map (λ y. n y.0) ys
-    → map (λ x. g x.1) xs ≡ map (λ y. f y.1) ys → members_of m g xs ≡ members_of n f ys
-members_same m n g f [] [] p q = refl
-members_same m n g f [] (y ∷ ys) p q = cc
-members_same m n g f (x ∷ xs) [] p q = cc
-members_same m n g f (x ∷ xs) (y ∷ ys) p q =
-    let name : m x.0 ≡ n y.0 = cc in
-    let names : map (λ x. m x.0) xs ≡ map (λ y. n y.0) ys = cc in
-    let first : g x.1 ≡ f y.1 = cc in
-    let trees : map (λ x. g x.1) xs ≡ map (λ y. f y.1) ys = cc in
-    rw (name, first, members_same m n g f xs ys names trees) refl
+-- the names and the trees, in order, as members
+abbrev pub named_trees : List (List ℕ) → List Tree → Members
+named_trees (n ∷ ns) (t ∷ ts) = member n t (named_trees ns ts)
+named_trees _ _ = no_members
+
+-- the members of entries are made of the lists of their names and of their trees
+pub members_by : {K V : Type 0} (text : K → List ℕ) (f : V → Tree) (es : List (K × V))
+    → members_of text f es ≡ named_trees (map (λ e. text e.0) es) (map (λ e. f e.1) es)
+members_by text f [] = refl
+members_by text f (e ∷ es) = ap (λ ms. member (text e.0) (f e.1) ms) (members_by text f es)
 
 -- ---- one more row, and one more entry
 

@@ -1,6 +1,6 @@
 -- Lists and objects in normal form: two lists in normal form make one (`normal_list-append`), and an object of trees in
 -- normal form whose names rise is in normal form (`rising_is_normal`).
-use Rattle.std.proofs.Common.{◌≡◌, ℕ, List, [], ◌∷◌, ◌++◌, Option, Some, None, IfSome, refl, sym, ap, ap₂, subst, ◌∙◌}
+use Rattle.std.proofs.Common.{◌≡◌, ℕ, List, [], ◌∷◌, ◌++◌, Option, Some, None, IfSome, refl, ap, ap₂, ◌∙◌}
 use Rattle.std.proofs.Common.{Less, option_map}
 use Rattle.miniserde_model.specs.Tree.{Tree, list, Trees, tree, Members, no_members, member}
 use Rattle.miniserde_model.specs.Normal.{text_cmp, norm, norm_children, norm_members, with_if_absent, Rise}
@@ -29,6 +29,24 @@ normal_list-append {A} f xs ys e h = ap list (both xs (cc e))
         let later : AreNormal (trees_of f zs) = cc e in
         ap₂ tree first (both zs later)
 
+-- the key of the last entry, if there is one
+abbrev pub last_key : {K V : Type 0} → List (K × V) → Option K
+last_key [] = None
+last_key (e ∷ []) = Some e.0
+last_key (e ∷ d ∷ es) = last_key (d ∷ es)
+
+-- the last key is the one of an entry that was appended
+pub last_key-snoc : {K V : Type 0} (es : List (K × V)) (e : K × V) → last_key (es ++ e ∷ []) ≡ Some e.0
+last_key-snoc [] e = refl
+last_key-snoc (d ∷ []) e = refl
+last_key-snoc (d ∷ c ∷ es) e = last_key-snoc (c ∷ es) e
+
+-- P holds of the value in `option_map f o` if it holds of f's result for the one in o
+pub IfSome-option_map : {X Y : Type 0} (f : X → Y) (P : Y → Type 0) (o : Option X) → IfSome o (λ x. P (f x))
+    → IfSome (option_map f o) P
+IfSome-option_map f P None h = tt
+IfSome-option_map f P (Some x) h = h
+
 module _ {K V : Type 0} (text : K → List ℕ) (f : V → Tree) where
   -- if the trees of the members of es and the tree of e are in normal form, so are those with e appended
   pub TreesAreNormal-snoc : (es : List (K × V)) (e : K × V) → TreesAreNormal (members_of text f es) → norm (f e.1) ≡ f e.1
@@ -36,24 +54,9 @@ module _ {K V : Type 0} (text : K → List ℕ) (f : V → Tree) where
   TreesAreNormal-snoc [] e n h = (h, tt)
   TreesAreNormal-snoc (d ∷ es) e n h = (n.0, TreesAreNormal-snoc es e n.1 h)
 
-  -- names that rise to that of e still do with d behind it, if its name comes after that of e
-  pub rise-snoc : (es : List (K × V)) (e d : K × V) → Rise (members_of text f (es ++ e ∷ []))
-      → text_cmp (text e.0) (text d.0) ≡ Less → Rise (members_of text f ((es ++ e ∷ []) ++ d ∷ []))
-  rise-snoc [] e d r l = (l, (tt, tt))
-  rise-snoc (b ∷ []) e d r l = (r.0, rise-snoc [] e d r.1 l)
-  rise-snoc (b ∷ c ∷ es) e d r l = (r.0, rise-snoc (c ∷ es) e d r.1 l)
-
--- the entries end with one whose key is k, or there are none if k is `None`
-abbrev pub EndsAt : {K V : Type 0} → Option K → List (K × V) → Type 0
-EndsAt None es = es ≡ []
-EndsAt {K} {V} (Some k) es = (ds : List (K × V)) × (e : K × V) × (es ≡ ds ++ e ∷ []) × (e.0 ≡ k)
-
--- Names that rise still do with a further one, if it comes after the last one, where there is one: o is what has the key
--- of the last entry by `key`.
-pub rise_further : {K V X : Type 0} (text : K → List ℕ) (f : V → Tree) (es : List (K × V)) (key : X → K) (o : Option X)
-    (d : K × V) → Rise (members_of text f es) → EndsAt (option_map key o) es
-    → IfSome o (λ x. text_cmp (text (key x)) (text d.0) ≡ Less) → Rise (members_of text f (es ++ d ∷ []))
-rise_further text f es key None d r e l = rw e (tt, tt)
-rise_further text f es key (Some x) d r (ds, e, is, last) l =
-    subst (λ xs. Rise (members_of text f (xs ++ d ∷ []))) (sym is)
-    (rise-snoc text f ds e d (subst (λ xs. Rise (members_of text f xs)) is r) (ap (λ n. text_cmp (text n) (text d.0)) last ∙ l))
+  -- names that rise still do with that of d behind them, if it comes after the last one
+  pub rise_further : (es : List (K × V)) (d : K × V) → Rise (members_of text f es)
+      → IfSome (last_key es) (λ k. text_cmp (text k) (text d.0) ≡ Less) → Rise (members_of text f (es ++ d ∷ []))
+  rise_further [] d r l = (tt, tt)
+  rise_further (e ∷ []) d r l = (l, (tt, tt))
+  rise_further (e ∷ c ∷ es) d r l = (r.0, rise_further (c ∷ es) d r.1 l)

@@ -42,17 +42,25 @@ fits_changed n os k p ms h f =
     subst (λ (qs : List OpenObject). Fits n qs ms) (sym (reverse_set os k p h))
     (fits_other n (get_or os k p) p (reverse (take k os)) ms (subst (λ (qs : List OpenObject). Fits n qs ms) (reverse_last os k p h) f))
 
+-- an object is open behind the objects os, which gives qs, and its mark behind the marks ms, which gives ns, unless there was no
+-- memory for the mark
+pub record OpensObject {A E : Type 0} (r : Result A E) (os qs : List OpenObject) (ms ns : List OpenContainer) : Type 0 where
+  pub object : OpenObject
+  pub objects : qs ≡ os ++ object ∷ []
+  pub marks : ns ≡ (if is_ok r then ms ++ container.Object ∷ [] else ms)
+
 -- marks fit after an object was opened, whether or not there was memory for its mark
 pub fits_opened : {A E : Type 0} {qs : List OpenObject} {ns : List OpenContainer} (r : Result A E) (n : ℕ)
-    (os : List OpenObject) (o : OpenObject) (ms : List OpenContainer) → qs ≡ os ++ o ∷ []
-    → ns ≡ (if is_ok r then ms ++ container.Object ∷ [] else ms)
-    → Fits n (reverse os) (reverse ms) → Fits n (reverse qs) (reverse ns)
-fits_opened {qs = qs} {ns = ns} (Ok u) n os o ms e d f =
-    subst (λ (l : List OpenObject). Fits n l (reverse ns)) (sym (reverse_added os qs o e))
-    (subst (λ (l : List OpenContainer). Fits n (o ∷ reverse os) l) (sym (reverse_added ms ns container.Object d)) (omega arith, f))
-fits_opened {qs = qs} {ns = ns} (Err u) n os o ms e d f =
-    subst (λ (l : List OpenObject). Fits n l (reverse ns)) (sym (reverse_added os qs o e))
-    (subst (λ (l : List OpenContainer). Fits n (o ∷ reverse os) (reverse l)) (sym d) (fits_more n o (reverse os) (reverse ms) f))
+    (os : List OpenObject) (ms : List OpenContainer) → OpensObject r os qs ms ns → Fits n (reverse os) (reverse ms)
+    → Fits n (reverse qs) (reverse ns)
+fits_opened {qs = qs} {ns = ns} (Ok u) n os ms p f =
+    subst (λ (l : List OpenObject). Fits n l (reverse ns)) (sym (reverse_added os qs p.object p.objects))
+    (subst (λ (l : List OpenContainer). Fits n (p.object ∷ reverse os) l)
+    (sym (reverse_added ms ns container.Object p.marks)) (omega arith, f))
+fits_opened {qs = qs} {ns = ns} (Err u) n os ms p f =
+    subst (λ (l : List OpenObject). Fits n l (reverse ns)) (sym (reverse_added os qs p.object p.objects))
+    (subst (λ (l : List OpenContainer). Fits n (p.object ∷ reverse os) (reverse l)) (sym p.marks)
+    (fits_more n p.object (reverse os) (reverse ms) f))
 
 -- the values of `old` from the index v on were taken out, which left `new`, unless there was no memory for it
 pub record TakenFrom {A E : Type 0} (r : Result A E) (old new : Vec Value Global) (v : ℕ) : Type 0 where

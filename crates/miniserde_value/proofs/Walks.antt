@@ -81,18 +81,18 @@ ordered_string v s e = subst IsOrdered (sym (ap content_of e ∙ content_of_stri
 -- ---- a container is opened
 
 -- the first token of an array is its opening, and the tokens of its items are left
-pub begin_array : (v : Value) (a : Array) (it : Iter Value) (rest more : List Token) → v ≡ value.Array a
+pub begin_array : {v : Value} {more : List Token} (a : Array) (it : Iter Value) (rest : List Token) → v ≡ value.Array a
     → iter_rest it ≡ array_items a → more ≡ items_left it rest → tokens (content_of v) rest ≡ array ∷ more
-begin_array v a it rest more e i m =
+begin_array {v = v} a it rest e i m =
     at_content v (array_content a) rest _ (ap content_of e ∙ content_of_array a)
     (ap (λ (xs : List Value). array ∷ child_tokens (trees_of content_of xs) (array_end ∷ rest)) (sym i)
     ∙ ap (λ (x : List Token). array ∷ x) (sym m))
 
 -- the first token of an object is its opening, and the tokens of its members are left
-pub begin_object : (v : Value) (o : Object) (it : List (String Global × Value)) (rest more : List Token)
+pub begin_object : {v : Value} {more : List Token} (o : Object) (it : List (String Global × Value)) (rest : List Token)
     → v ≡ value.Object o → it ≡ object_entries o → more ≡ members_left it rest
     → tokens (content_of v) rest ≡ object ∷ more
-begin_object v o it rest more e i m =
+begin_object {v = v} o it rest e i m =
     at_content v (object_content o) rest _ (ap content_of e ∙ content_of_object o)
     (ap (λ (xs : List (String Global × Value)).
     object ∷ member_tokens (members_of string_bytes content_of xs) (object_end ∷ rest)) (sym i)

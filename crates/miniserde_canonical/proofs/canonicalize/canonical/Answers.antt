@@ -30,22 +30,22 @@ pub returns-clause-ok : goal.returns-clause-ok
 returns-clause-ok c = let r = c.in_ok-text.ensures.ok in (r.0, r.1, r.2)
 
 pub returns-clause-text : goal.returns-clause-text
-returns-clause-text c = canonical_text c.args.j.now _ (returns-clause-ok c)
+returns-clause-text c = canonical_text (returns-clause-ok c)
 
 pub returns-clause-spells : goal.returns-clause-spells
-returns-clause-spells c = canonical_spelled c.args.j.now _ (returns-clause-ok c)
+returns-clause-spells c = canonical_spelled (returns-clause-ok c)
 
 pub returns-clause-normal : goal.returns-clause-normal
 returns-clause-normal c = λ t p. norm_twice t
 
 pub returns-clause-tells : goal.returns-clause-tells
-returns-clause-tells c = canonical_decides c.args.j.now _ (returns-clause-ok c)
+returns-clause-tells c = canonical_decides (returns-clause-ok c)
 
 pub returns-clause-shortest : goal.returns-clause-shortest
-returns-clause-shortest c = canonical_least c.args.j.now _ (returns-clause-ok c)
+returns-clause-shortest c = canonical_least (returns-clause-ok c)
 
 pub returns-clause-one : goal.returns-clause-one
 returns-clause-one c = one_tree c.args.j.now
 
 pub returns-clause-idempotent : goal.returns-clause-idempotent
-returns-clause-idempotent c = λ b t h e. (canonical_of_canonical c.args.j.now _ b (returns-clause-ok c) t h e, λ i. absurd (cc))
+returns-clause-idempotent c = λ b t h e. (canonical_of_canonical b (returns-clause-ok c) t h e, λ i. absurd (cc))

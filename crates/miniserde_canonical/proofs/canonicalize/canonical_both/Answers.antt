@@ -1,6 +1,5 @@
 -- Each text is canonical, and a refusal is that of one of them.
 use Rattle.std.proofs.Common.{inl, inr}
-use Rattle.std.specs.String.{string_bytes}
 use Rattle.std.proofs.lemmas.Result.{err_from_is_err_and}
 use Rattle.miniserde_canonical.proofs.IsCanonical.{canonical_texts_decide}
 use Rattle.miniserde_canonical.proofs.canonicalize.canonical_both.Goals as goal
@@ -17,5 +16,4 @@ returns-in_err-canonical-2-clause-invalid c = λ e.
 
 pub returns-clause-tells : goal.returns-clause-tells
 returns-clause-tells c =
-    canonical_texts_decide c.args.a.now c.args.b.now (string_bytes c.in_ok-canonical.field-0) (string_bytes c.in_ok-canonical-2.field-0)
-    c.in_ok-canonical.ensures.ok c.in_ok-canonical-2.ensures.ok
+    canonical_texts_decide c.in_ok-canonical.ensures.ok c.in_ok-canonical-2.ensures.ok

@@ -34,19 +34,19 @@ returns-in_err-text-clause-idempotent c = λ b t h e.
 -- ---- a text without duplicate names
 
 pub returns-then-is_distinct-clause-text : goal.returns-then-is_distinct-clause-text
-returns-then-is_distinct-clause-text c = canonical_text c.args.j.now _ (let r = c.in_ok-text.ensures.ok in (r.0, r.1, r.2))
+returns-then-is_distinct-clause-text c = canonical_text (let r = c.in_ok-text.ensures.ok in (r.0, r.1, r.2))
 
 pub returns-then-is_distinct-clause-spells : goal.returns-then-is_distinct-clause-spells
-returns-then-is_distinct-clause-spells c = canonical_spelled c.args.j.now _ (let r = c.in_ok-text.ensures.ok in (r.0, r.1, r.2))
+returns-then-is_distinct-clause-spells c = canonical_spelled (let r = c.in_ok-text.ensures.ok in (r.0, r.1, r.2))
 
 pub returns-then-is_distinct-clause-normal : goal.returns-then-is_distinct-clause-normal
 returns-then-is_distinct-clause-normal c = λ t p. norm_twice t
 
 pub returns-then-is_distinct-clause-tells : goal.returns-then-is_distinct-clause-tells
-returns-then-is_distinct-clause-tells c = canonical_decides c.args.j.now _ (let r = c.in_ok-text.ensures.ok in (r.0, r.1, r.2))
+returns-then-is_distinct-clause-tells c = canonical_decides (let r = c.in_ok-text.ensures.ok in (r.0, r.1, r.2))
 
 pub returns-then-is_distinct-clause-shortest : goal.returns-then-is_distinct-clause-shortest
-returns-then-is_distinct-clause-shortest c = canonical_least c.args.j.now _ (let r = c.in_ok-text.ensures.ok in (r.0, r.1, r.2))
+returns-then-is_distinct-clause-shortest c = canonical_least (let r = c.in_ok-text.ensures.ok in (r.0, r.1, r.2))
 
 pub returns-then-is_distinct-clause-distinct : goal.returns-then-is_distinct-clause-distinct
 returns-then-is_distinct-clause-distinct c = λ t p.
@@ -62,7 +62,7 @@ returns-then-is_distinct-clause-one c = one_tree c.args.j.now
 pub returns-then-is_distinct-clause-idempotent : goal.returns-then-is_distinct-clause-idempotent
 returns-then-is_distinct-clause-idempotent c = λ b t h e.
     let r = c.in_ok-text.ensures.ok in
-    (canonical_of_canonical c.args.j.now _ b (r.0, r.1, r.2) t h e, λ i. absurd (cc))
+    (canonical_of_canonical b (r.0, r.1, r.2) t h e, λ i. absurd (cc))
 
 -- ---- a duplicate
 

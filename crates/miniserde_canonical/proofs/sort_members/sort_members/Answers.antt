@@ -3,7 +3,6 @@
 use Rattle.std.proofs.Common.{sym, ap, subst, ◌∙◌}
 use Rattle.miniserde_model.specs.Normal.{last_of}
 use Rattle.miniserde_canonical.specs.private.Members.{members_at}
-use Rattle.miniserde_canonical.specs.private.SortMembers.{texts}
 use Rattle.miniserde_canonical.proofs.MemberLists.{InNameOrder}
 use Rattle.miniserde_canonical.proofs.SortMembers.{settled}
 use Rattle.miniserde_canonical.proofs.sort_members.sort_members.Goals as goal
@@ -15,8 +14,14 @@ returns c =
       sorted = c.in_ok-sort.ensures.sorted;
       lasts = λ r q. c.in_ok-sort.ensures.last r q ∙ ap (λ z. last_of q (members_at ns r z)) c.in_ok-fill.ensures;
     } in
-    settled c.index-members-0.result (texts c.args.out.now c.args.groups.now) c.put_members.new.groups
-    (texts c.put_back.new.out c.put_back.new.groups) c.in_ok-number.number c.requires
-    (subst (InNameOrder ns) (sym c.as_slice.ensures.value) sorted)
-    (record { bytes = c.end-from.ensures.bytes; splices = c.end-from.ensures.splices }) c.in_ok-number.ensures
-    c.in_ok-put_back.ensures
+    settled (record {
+      order = _;
+      from = _;
+      otherwise = c.index-members-0.result;
+      groups = c.put_members.new.groups;
+      some = c.requires;
+      in_order = subst (InNameOrder ns) (sym c.as_slice.ensures.value) sorted;
+      is_end = record { bytes = c.end-from.ensures.bytes; splices = c.end-from.ensures.splices };
+      puts = c.in_ok-number.ensures;
+      back = c.in_ok-put_back.ensures;
+    })

@@ -1,6 +1,7 @@
 -- The member begins at the end of the text with its run (`run_length`). It is the last one of the state
 -- (`holding_begun`), and `spell` changes the text and the run alone (`keep_holding`).
 use Rattle.std.proofs.Common.{rules, ◌≡◌, ◌+◌, length, [], ◌∷◌, ◌++◌, refl, sym, ap, ◌∙◌, arith}
+use Rattle.miniserde_model.specs.Ascii.{name_separator}
 use Rattle.miniserde_model.specs.Compact.{string_text}
 use Rattle.miniserde_model.specs.Tokens.{comma_before}
 use Rattle.miniserde_text.specs.Lexer.{text_of}
@@ -19,13 +20,16 @@ returns c = λ rest part rest' before s s' t h k p i a.
     run_length c.args.span.at _ t k.at
     (point ∙ ap (λ z. length c.args.self.now.out.bytes.items + z) c.saturating_sub-run.ensures) in
     record {
-      bytes = (before ++ comma_before s.first) ++ (string_text n ++ 58 ∷ []);
+      bytes = (before ++ comma_before s.first) ++ (string_text n ++ name_separator ∷ []);
       wrote = c.in_ok-spell.ensures.wrote rest part rest' (before ++ comma_before s.first)
           (record { front = t.front; run = t.run; input = t.input; left = t.left; text = t.text }) k p;
       holding = keep_holding c.in_ok-spell.ensures.only_text
           (holding_begun {d = c.args.self.now} c.new-2.result n
-          (record { splices = refl; groups = refl; groups_splices = refl; distinct = refl })
-          c.in_ok-push.ensures.items refl
+          (record {
+            keeps = record { splices = refl; groups = refl; groups_splices = refl; distinct = refl };
+            members = c.in_ok-push.ensures.items;
+            opened = refl;
+          })
           (record {
             name = ap name_of c.new-2.ensures.name ∙ c.in_ok-name.ensures;
             first = c.new-2.ensures.first ∙ sym i;

@@ -1,7 +1,7 @@
 -- `close` removes the members of the innermost object from the list and leaves their text in the order of their
 -- names, each name once. By cases: fewer members than the mark is impossible, names that rise leave the text as it
 -- is, and all others are sorted.
-use Rattle.std.proofs.Common.{rules, ◌≡◌, ◌≤◌, ◌<◌, [], length, take, drop, refl, sym, ap, subst, ◌∙◌, inl, inr, arith}
+use Rattle.std.proofs.Common.{rules, ◌≡◌, ◌<◌, [], ◌∷◌, ◌++◌, length, take, drop, refl, sym, ap, subst, ◌∙◌, inl, inr, arith}
 use Rattle.miniserde_canonical.specs.private.States.{State, entries_text}
 use Rattle.miniserde_canonical.specs.private.Drafts.{Holding}
 use Rattle.miniserde_canonical.proofs.DraftSteps.{behind, too_few, closes, rises_behind, keep_holding, holding_same}
@@ -39,8 +39,6 @@ returns-then-rises c = λ rest s r at.
     let d = c.args.self.now in
     let f = c.in-Some.before in
     let w = r.wrote in
-    let within : f ≤ length d.members.items = let number : c.len.result ≡ length d.members.items =
-    search rules in omega (arith, number, c.if-len-before.false) in
     let m : State = record {
       entries = take f s.entries;
       last = entries_text (drop f s.entries) s.last;
@@ -52,14 +50,13 @@ returns-then-rises c = λ rest s r at.
     let rise = rises_behind f _ (behind d.members.items c.deref.result.now f c.deref.ensures.value)
     (c.rises.ensures.rises c.if-rises.true) r.holding in (
       m,
-      closes s m c.pop.new.self.items f (sym r.holding.opened ∙ c.in-Some.ensures.items) refl refl
-          (inl (rise, refl, refl)),
+      closes s m f (sym r.holding.opened ∙ c.in-Some.ensures.items) refl (inl (rise, refl, refl)),
       record {
         bytes = r.bytes;
         wrote =
             record { front = w.front; run = w.run; input = w.input; left = w.left; text = w.text };
         holding =
-            holding_same f within (record { splices = refl; groups = refl; groups_splices = refl; distinct = refl })
+            holding_same f (record { splices = refl; groups = refl; groups_splices = refl; distinct = refl })
             c.truncate.ensures.items r.holding;
       },
     )
@@ -79,22 +76,20 @@ returns c = λ rest s r at.
     keep_holding k
     (record { chain = h.chain; good = h.good; opened = refl; distinct = h.distinct }) in
     let whole : Holding e e.out.bytes.items t = subst (λ z. Holding e z t) (sym q.1) popped in
-    let within : f ≤ length e.members.items = let number : c.len.result ≡ length d.members.items =
-    search rules in omega (arith, number, c.if-len-before.false, ap length k.members) in
     let first = behind d.members.items c.deref.result.now f c.deref.ensures.value in
     let second = behind e.members.items c.deref-2.result.now f c.deref-2.ensures.value in
     let some = subst (λ z. 0 < length z) (first ∙ ap (drop f) (sym k.members) ∙ sym second) (c.rises.ensures.some c.if-rises.false) in
-    let o = holding_sorted within some
+    let o = holding_sorted some
     (record {
       all = second;
       is_distinct = c.in_ok-is_distinct.is_distinct;
       sorts = c.in_ok-is_distinct.ensures;
       members = c.truncate-2.ensures.items;
       distinct = refl;
-    }) whole in (
+    }) whole in
+    let opened = sym h.opened ∙ c.in-Some.ensures.items ∙ ap (λ z. z ++ f ∷ []) (sym (o.opened ∙ k.opened)) in (
       o.state,
-      closes s o.state c.pop.new.self.items f (sym h.opened ∙ c.in-Some.ensures.items) (o.opened ∙ k.opened)
-          o.entries (inr (sorted_like (drop f s.entries) s t o.state refl refl o.sorted)),
+      closes s o.state f opened o.entries (inr (sorted_like (drop f s.entries) s t o.state refl refl o.sorted)),
       record {
         bytes = c.sort_members.new.out.bytes.items;
         wrote =

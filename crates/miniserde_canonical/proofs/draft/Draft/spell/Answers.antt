@@ -1,6 +1,7 @@
 -- The flush writes the run, the string and the colon are appended, and the next run begins after the name
 -- (`rewound`).
 use Rattle.std.proofs.Common.{[], ◌∷◌, ◌++◌, refl, ap, ◌∙◌, append_assoc}
+use Rattle.miniserde_model.specs.Ascii.{name_separator}
 use Rattle.miniserde_model.specs.Compact.{string_text}
 use Rattle.miniserde_text.specs.Lexer.{text_of}
 use Rattle.miniserde_canonical.proofs.InputRuns.{rewound}
@@ -14,6 +15,6 @@ returns-clause-wrote c = λ rest part rest' bs t k p.
     (record {
       input = refl;
       left = k.end;
-      text_is = c.in_ok-push.ensures.items ∙ ap (λ z. z ++ 58 ∷ []) (c.in_ok-put_string.ensures ∙ ap (λ z. z ++ n) q.1)
-          ∙ append_assoc bs n (58 ∷ []);
+      text_is = c.in_ok-push.ensures.items ∙ ap (λ z. z ++ name_separator ∷ []) (c.in_ok-put_string.ensures ∙ ap (λ z. z ++ n) q.1)
+          ∙ append_assoc bs n (name_separator ∷ []);
     })

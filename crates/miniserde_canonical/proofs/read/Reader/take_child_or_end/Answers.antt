@@ -26,7 +26,7 @@ returns-in_err-after-clause-invalid c = λ e.
     after_ends _ c.args.kind c.args.first c.requires.inside
     (λ a r p. c.in_err-after.ensures.invalid (cc (w.1, w.2, e))
     (c.in_ok-before.ensures.going ∙ c.requires.going) a r
-    (follows_at c.args.kind c.args.first a _ _ r c.in_ok-before.ensures.blank p))
+    (follows_at c.args.kind c.args.first a r c.in_ok-before.ensures.blank p))
 
 pub returns-in_err-text-in-Map-kind-clause-invalid : goal.returns-in_err-text-in-Map-kind-clause-invalid
 returns-in_err-text-in-Map-kind-clause-invalid c = λ e.
@@ -36,10 +36,10 @@ returns-in_err-text-in-Map-kind-clause-invalid c = λ e.
     subst (λ z. Follows k c.args.first (is_close z) c.skip.new.lexer.rest c.after.new.self.rest) c.in-Next.is
     c.in_ok-after.ensures.ok in
     name_ends _ _ k c.args.first c.requires.inside c.in-Map-kind.is
-    (follows_behind k c.args.first false _ _ _ c.in_ok-before.ensures.blank p)
+    (follows_behind k c.args.first false _ c.in_ok-before.ensures.blank p)
     (λ n x q. c.in_err-text-in-Map-kind.ensures.invalid (cc (w.1, w.2, e))
     (c.in_ok-at-in-Map-kind.ensures.going ∙ c.in_ok-after.ensures.first_error.kept) n x
-    (names_at _ _ n x c.in_ok-at-in-Map-kind.ensures.blank q))
+    (names_at n x c.in_ok-at-in-Map-kind.ensures.blank q))
 
 pub add_member-requires : goal.add_member-requires
 add_member-requires c = name_plain c.in_ok-text-in-Map-kind.text (string_bytes c.name.new.scratch) _ _
@@ -57,7 +57,7 @@ returns-in-Seq-clause-reads c =
     let p : Follows k c.args.first true mid new =
     subst (λ z. Follows k c.args.first (is_close z) mid new) c.in-Close.is c.in_ok-after.ensures.ok in (
       end_token k ∷ [],
-      reads_finish k c.args.first c.requires.inside (follows_behind k c.args.first true old mid new b p) c.pop.ensures,
+      reads_finish k c.args.first c.requires.inside (follows_behind k c.args.first true new b p) c.pop.ensures,
       subst (λ z. DraftTakes (draft_at (first_or_after c.args.first) old d) (end_token z ∷ []) (draft_at after new d1))
           (sym c.in-Seq.is)
           (takes_array_end {d = d} {d' = d1} (first_or_after c.args.first)
@@ -77,7 +77,7 @@ returns-in_ok-close-in-Map-clause-reads c =
     let p : Follows k c.args.first true mid new =
     subst (λ z. Follows k c.args.first (is_close z) mid new) c.in-Close.is c.in_ok-after.ensures.ok in (
       end_token k ∷ [],
-      reads_finish k c.args.first c.requires.inside (follows_behind k c.args.first true old mid new b p) c.pop.ensures,
+      reads_finish k c.args.first c.requires.inside (follows_behind k c.args.first true new b p) c.pop.ensures,
       subst (λ z. DraftTakes (draft_at (first_or_after c.args.first) old d) (end_token z ∷ []) (draft_at after new c.close.new.self))
           (sym c.in-Map.is)
           (takes_object_end {d = d} {d1 = d1} (first_or_after c.args.first) c.close.new.self
@@ -98,7 +98,7 @@ returns-in-Seq-kind-clause-reads c =
     let p : Follows k c.args.first false mid new =
     subst (λ z. Follows k c.args.first (is_close z) mid new) c.in-Next.is c.in_ok-after.ensures.ok in (
       element ∷ [],
-      reads_element k c.args.first c.requires.inside c.in-Seq-kind.is (follows_behind k c.args.first false old mid new b p),
+      reads_element k c.args.first c.requires.inside c.in-Seq-kind.is (follows_behind k c.args.first false new b p),
       takes_element {d = d} {d' = d1} c.args.first new
           (record { wrote = c.in_ok-before.ensures.wrote; only_text = c.in_ok-before.ensures.only_text })
           (comma_at k c.args.first mid new b.stops p),
@@ -131,7 +131,7 @@ returns-in_ok-add_member-in-Map-kind-clause-reads c =
     (name_spelled text x at new q c.in_ok-text-in-Map-kind.ensures.text) f a) in (
       name n ∷ [],
       reads_key k c.args.first c.requires.inside c.in-Map-kind.is
-          (follows_behind k c.args.first false old mid behind b p) (names_behind behind at n new b2 q),
+          (follows_behind k c.args.first false behind b p) (names_behind n new b2 q),
       takes_name {d = d} {d1 = d1} {d2 = d2} c.args.first n behind
           (record { wrote = c.in_ok-before.ensures.wrote; only_text = c.in_ok-before.ensures.only_text })
           (comma_at k c.args.first mid behind b.stops p)

@@ -19,7 +19,7 @@ pub returns-in_err-event-clause-invalid : goal.returns-in_err-event-clause-inval
 returns-in_err-event-clause-invalid c = λ e.
     let w = err_from_is_err_and c.from_residual-in_err-event.result c.from_residual-in_err-event.ensures.1 in
     start_ends _ (λ t r p. c.in_err-event.ensures.invalid (cc (w.1, w.2, e))
-    (c.in_ok-at.ensures.going ∙ c.requires.going) t r (starts_at _ _ t r c.in_ok-at.ensures.blank p))
+    (c.in_ok-at.ensures.going ∙ c.requires.going) t r (starts_at t r c.in_ok-at.ensures.blank p))
 
 pub returns-clause-reads : goal.returns-clause-reads
 returns-clause-reads c =
@@ -38,7 +38,7 @@ returns-clause-reads c =
     let st = c.in_ok-push.ensures.ok ∙ ap (λ z. with_opened z c.args.self.now.stack) k in
     let o = c.is_some.ensures ∙ ap is_some k in
     let s = q.1 in
-    let full = starts_behind old mid e new b s in
+    let full = starts_behind e new b s in
     let takes : (u u' : State) → Represents d1 mid u → TokenStep (first_token e) u u' → Represents c.token.new.self new u' =
     λ u u' r a. c.in_ok-opened.ensures.takes mid s.0.part new x u u' r
     (record { text = at_once mid new s.0 b.stops; at = c.in_ok-at.ensures.at; end = c.left-end.ensures })

@@ -1,11 +1,11 @@
 -- A turn appends one name, one tree and one valid key (`map_more`, `all_more`). After the loop the iterator has
--- yielded all entries of the map, so `members_same` gives the members, and `distinct_names` says that the names are
+-- yielded all entries of the map, so `members_by` gives the members, and `distinct_names` says that the names are
 -- distinct.
-use Rattle.std.proofs.Common.{◌≡◌, ◌∷◌, [], rules, refl, map, string_bytes}
+use Rattle.std.proofs.Common.{◌≡◌, ◌∷◌, [], rules, refl, sym, ap₂, ◌∙◌, map, string_bytes}
 use Rattle.std.specs.Map.Iter.{deref_pair}
 use Rattle.std.proofs.lemmas.List.{map-append}
 use Rattle.std.proofs.lemmas.Map.Iter.{iter_end}
-use Rattle.miniserde_ser.proofs.Names.{all_more, distinct_names, map_more, members_same}
+use Rattle.miniserde_ser.proofs.Names.{all_more, distinct_names, map_more, named_trees, members_by}
 use Rattle.miniserde_ser.proofs.ser.impls.hashed.entries_of.Goals as goal
 
 pub loop-key-preserved : goal.loop-key-preserved
@@ -23,7 +23,8 @@ pub returns-clause-ok : goal.returns-clause-ok
 returns-clause-ok g c =
     let e : map deref_pair c.loop-key.yielded ≡ c.args.table.now.entries = search (rules, iter_end) in
     let inv = c.loop-key.invariant in
-    members_same string_bytes g.K.MapKey.text (λ v. g.V.Serialize.tree v.now) g.V.Serialize.tree _ _ (rw e at inv.names) (rw e at inv.trees)
+    members_by string_bytes (λ v. g.V.Serialize.tree v.now) _ ∙ ap₂ named_trees (rw e at inv.names) (rw e at inv.trees)
+    ∙ sym (members_by g.K.MapKey.text g.V.Serialize.tree _)
 
 pub returns-clause-distinct : goal.returns-clause-distinct
 returns-clause-distinct g c =

@@ -15,9 +15,9 @@ loop-item-preserved-in_ok-append_mark g c =
     let inv = c.loop-item.invariant in
     let split = c.in-Some.ensures.cases in
     record {
-      text = compact_children_later f c.in-Some.later.now _ split.0
-          (grind (arith, nat_tests, c.is_empty.ensures, c.if-not-is_empty.true)) inv.text c.in_ok-begin.ensures.ok
-          (ap (λ s. s.text) c.in_ok-append_mark.ensures.ok);
+      text = rw (c.in_ok-append_mark.ensures.ok, c.in_ok-begin.ensures.ok)
+          (compact_children_later f c.in-Some.later.now _ split.0
+          (grind (arith, nat_tests, c.is_empty.ensures, c.if-not-is_empty.true)) inv.text);
       in_range = λ r. inv.in_range (subst (λ xs. AllInRange (trees_of f xs)) (sym split.0) (c.in_ok-begin.ensures.in_range, r));
       normal = λ a n.
           let kept = c.in_ok-begin.ensures.normal (sym (ap (λ s. s.normal) c.in_ok-append_mark.ensures.ok) ∙ n) in

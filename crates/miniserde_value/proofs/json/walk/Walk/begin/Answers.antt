@@ -45,7 +45,7 @@ returns-in_ok-push_array-in-Array-clause-left c =
     let items : iter_rest c.iter.result ≡ array_items c.in-Array.array =
     c.iter.ensures.rest ∙ c.deref.ensures.value ∙ ap (λ (v : Vec Value Global). v.items) c.inner.ensures in
     ap (λ (d : Option (Bor Value)). tokens (content_of c.args.value.now) (due_left d (frames_left c.args.self.now.frames))) c.requires
-    ∙ begin_array c.args.value.now _ c.iter.result _ (frames_left c.push_array.new.self) c.in-Array.is items
+    ∙ begin_array _ c.iter.result _ c.in-Array.is items
     c.in_ok-push_array-in-Array.ensures.left
     ∙ ap (λ (d : Option (Bor Value)). array ∷ due_left d (frames_left c.push_array.new.self)) (sym c.requires)
 
@@ -59,7 +59,7 @@ returns-in_ok-push_array-in-Array-clause-ordered c =
 pub returns-in_ok-push_object-in-Object-clause-left : goal.returns-in_ok-push_object-in-Object-clause-left
 returns-in_ok-push_object-in-Object-clause-left c =
     ap (λ (d : Option (Bor Value)). tokens (content_of c.args.value.now) (due_left d (frames_left c.args.self.now.frames))) c.requires
-    ∙ begin_object c.args.value.now _ c.iter-in-Object.result _ (frames_left c.push_object.new.self) c.in-Object.is
+    ∙ begin_object _ c.iter-in-Object.result _ c.in-Object.is
     (search rules) c.in_ok-push_object-in-Object.ensures.left
     ∙ ap (λ (d : Option (Bor Value)). object ∷ due_left d (frames_left c.push_object.new.self)) (sym c.requires)
 

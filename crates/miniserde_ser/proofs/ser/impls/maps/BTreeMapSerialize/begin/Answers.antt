@@ -1,7 +1,7 @@
 -- A turn writes one member (`MembersWritten_step`). The name that is written is `K.text` of the key that the iterator yields,
 -- and while the flag is true it comes after the name before it (`rise_further`). At the end the iterator has yielded all
 -- entries (`iter_end`).
-use Rattle.std.proofs.Common.{◌≡◌, ◌∷◌, [], rules, ap, sym, refl, subst, ◌∙◌, false, map}
+use Rattle.std.proofs.Common.{◌≡◌, ◌∷◌, [], rules, ap, sym, subst, ◌∙◌, false, map}
 use Rattle.std.specs.Map.Iter.{deref_pair}
 use Rattle.std.proofs.lemmas.List.{map-append}
 use Rattle.std.proofs.lemmas.Map.Iter.{iter_end}
@@ -11,7 +11,7 @@ use Rattle.miniserde_model.specs.Tree.{members}
 use Rattle.miniserde_ser.specs.Trees.{members_of}
 use Rattle.miniserde_ser.specs.Writer.{with_first_flag, after_append}
 use Rattle.miniserde_ser.proofs.Members.{MembersWritten, MembersWritten_step}
-use Rattle.miniserde_ser.proofs.NormalForms.{TreesAreNormal-snoc, rise_further, rising_is_normal}
+use Rattle.miniserde_ser.proofs.NormalForms.{last_key-snoc, IfSome-option_map, TreesAreNormal-snoc, rise_further, rising_is_normal}
 use Rattle.miniserde_ser.proofs.ser.impls.maps.BTreeMapSerialize.begin.Goals as goal
 
 pub loop-key-preserved : goal.loop-key-preserved
@@ -40,10 +40,11 @@ loop-key-preserved g c =
           let watched = sym (ap (λ s. s.normal) at) ∙ kept.0 in
           let so = inv.normal (c.watch_order.ensures.was_normal watched) in (
             so.0,
-            rise_further text f done (λ k. k.now) c.loop-key.earlier entry so.1 inv.ends (c.watch_order.ensures.rises watched),
+            rise_further text f done entry so.1 (rw inv.ends (IfSome-option_map (λ k. k.now) _ c.loop-key.earlier
+                (c.watch_order.ensures.rises watched))),
             TreesAreNormal-snoc text f done entry so.2 kept.1,
           );
-      ends = (done, entry, refl, refl);
+      ends = last_key-snoc done entry;
     })
 
 pub returns-clause-normal : goal.returns-clause-normal

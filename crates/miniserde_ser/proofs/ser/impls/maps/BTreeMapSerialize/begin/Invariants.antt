@@ -5,7 +5,7 @@ use Rattle.std.specs.Map.Iter.{deref_pair}
 use Rattle.miniserde_model.specs.Normal.{Rise}
 use Rattle.miniserde_ser.specs.Trees.{members_of, TreesAreNormal}
 use Rattle.miniserde_ser.proofs.Members.{MembersWritten}
-use Rattle.miniserde_ser.proofs.NormalForms.{EndsAt}
+use Rattle.miniserde_ser.proofs.NormalForms.{last_key}
 use Rattle.miniserde_ser.proofs.ser.impls.maps.BTreeMapSerialize.begin.Given as goal
 
 abbrev pub invariant-loop-key : goal.invariant-loop-key
@@ -14,5 +14,5 @@ invariant-loop-key g l = record {
   normal : l.w.normal ≡ true → (l.fn.w.normal ≡ true)
       × Rise (members_of g.K.MapKey.text g.V.Serialize.tree (map deref_pair l.yielded))
       × TreesAreNormal (members_of g.K.MapKey.text g.V.Serialize.tree (map deref_pair l.yielded));
-  ends : EndsAt (option_map (λ k. k.now) l.earlier) (map deref_pair l.yielded);
+  ends : last_key (map deref_pair l.yielded) ≡ option_map (λ k. k.now) l.earlier;
 }

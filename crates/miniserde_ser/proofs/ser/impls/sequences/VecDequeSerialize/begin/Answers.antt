@@ -18,9 +18,15 @@ returns-clause-ok g c =
     let back = c.as_slices.result.1.now in
     let later : 0 < length back = grind (arith, nat_tests, c.is_empty.ensures, c.if-is_empty.false) in
     let first : 0 < length front = c.as_slices.ensures.first_filled.1 (omega (arith, later, c.as_slices.ensures.len)) in
-    appends_text c.append_mark-3.ensures (compact_parts g.T.Serialize.tree front back _ c.as_slices.ensures.items first later
-    (ap (λ s. s.text) c.in_ok-punctuate.ensures.ok) c.in_ok-write_each.ensures.ok (ap (λ s. s.text) c.in_ok-append_mark.ensures.ok)
-    c.in_ok-write_each-2.ensures.ok)
+    appends_text c.append_mark-3.ensures
+    (rw (
+      c.in_ok-write_each-2.ensures.ok,
+      c.in_ok-append_mark.ensures.ok,
+      c.in_ok-write_each.ensures.ok,
+      c.in_ok-punctuate.ensures.ok,
+      sym c.as_slices.ensures.items,
+    )
+    (compact_parts g.T.Serialize.tree front back c.args.w.now.text first later))
 
 pub returns-clause-in_range : goal.returns-clause-in_range
 returns-clause-in_range g c =
