@@ -136,10 +136,9 @@ pub quoted_escapes : (s : List ℕ) → string_text s ≡ 34 ∷ (escapes s ++ 3
 unfolding string_text escapes escape
 quoted_escapes s = refl
 
--- a quote, what stands between the quotes, and a quote
-pub between_quotes : (old mid a b new v : List ℕ) → mid ≡ old → a ≡ mid ++ 34 ∷ [] → b ≡ a ++ escapes v
-    → new ≡ b ++ 34 ∷ [] → new ≡ old ++ string_text v
-between_quotes old mid a b new v h i j k = rw (k, j, i, h, quoted_escapes v) (simp append_assoc refl)
+-- old, a quote, the escapes of v and a quote are old and the string of v
+pub between_quotes : (old v : List ℕ) → ((old ++ 34 ∷ []) ++ escapes v) ++ 34 ∷ [] ≡ old ++ string_text v
+between_quotes old v = rw (quoted_escapes v) (simp append_assoc)
 
 -- how long that is
 pub length_quoted : (v : List ℕ) → length (string_text v) ≡ 2 + length (escapes v)
