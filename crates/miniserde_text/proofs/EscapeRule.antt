@@ -11,7 +11,7 @@ use Rattle.std.specs.List.{AllByRecursion}
 use Rattle.miniserde_model.specs.Bytes.{is_special}
 use Rattle.miniserde_model.proofs.Written.{high_stays, low_stays}
 use Rattle.miniserde_model.specs.Compact.{string_text}
-use Rattle.miniserde_text.specs.private.Escape.{escape, escapes}
+use Rattle.miniserde_text.specs.private.Escape.{escape, escapes, IsPlainRun}
 use Rattle.miniserde_text.specs.laws.Escapes.{escapes-append}
 
 -- a byte that may stand for itself does
@@ -67,9 +67,8 @@ pub length_escapes_le : (xs : List ℕ) (i : ℕ) → length (escapes (take i xs
 length_escapes_le xs i = omega (arith, length_escapes_cut xs i)
 
 -- a run of bytes with none to escape
-pub escapes_run : (xs : List ℕ) (i j : ℕ) → i ≤ j → j ≤ length xs
-    → ((k : ℕ) → i ≤ k → k < j → is_special (get_or xs k 0) ≡ false) → escapes (take j xs) ≡ escapes (take i xs)
-    ++ take (j - i) (drop i xs)
+pub escapes_run : (xs : List ℕ) (i j : ℕ) → i ≤ j → j ≤ length xs → IsPlainRun xs i j
+    → escapes (take j xs) ≡ escapes (take i xs) ++ take (j - i) (drop i xs)
 escapes_run xs i j l h plain =
     let front : take j xs ≡ take i xs ++ take (j - i) (drop i xs) = ap (λ n. take n xs) (omega arith) ∙ take-add i (j - i) xs in
     let same : escapes (take (j - i) (drop i xs)) ≡ take (j - i) (drop i xs) =
@@ -79,8 +78,7 @@ escapes_run xs i j l h plain =
     rw (front, escapes-append) (ap (λ t. escapes (take i xs) ++ t) same)
 
 -- a run of plain bytes from i to j makes the escapes j - i bytes longer
-pub length_escapes_run : (xs : List ℕ) (i j : ℕ) → i ≤ j → j ≤ length xs
-    → ((k : ℕ) → i ≤ k → k < j → is_special (get_or xs k 0) ≡ false)
+pub length_escapes_run : (xs : List ℕ) (i j : ℕ) → i ≤ j → j ≤ length xs → IsPlainRun xs i j
     → length (escapes (take j xs)) + i ≡ length (escapes (take i xs)) + j
 length_escapes_run xs i j l h plain =
     omega (
