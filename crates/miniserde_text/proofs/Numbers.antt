@@ -288,6 +288,7 @@ sign_only : (m : Bool) (t : List ℕ) → (slice_index t 0 == 45) ≡ false → 
 sign_only true t h = (refl, refl)
 sign_only false t h = (h, ap (λ b. cond b (drop 1 t) t) h)
 
+-- a minus or none, an integer part w and a tail t are read as the event of these parts
 read_parts : (m : Bool) (w t r : List ℕ) → IsInt w → IsTail t → is_number_byte (slice_index r 0) ≡ false
     → number_at (sign_of m ++ (w ++ (t ++ r))) ≡ Some (event_of_parts (sign_of m ++ (w ++ t)) m w t, r)
 unfolding number_at

@@ -291,7 +291,7 @@ plain_at (c ∷ a) b h = plain_at a b h.1
 plain_no_backslash : (x : List ℕ) → AllByRecursion (λ c. is_special c ≡ false) x → HasBackslash x → ⊥
 plain_no_backslash x h (a, b, e) = plain_at a b (subst (AllByRecursion (λ c. is_special c ≡ false)) e h)
 
--- a run up to a quote has no backslash
+-- if a quote follows the run of unescaped bytes, s is the run, that quote and more, and the run has no backslash
 pub run_inside : (s t : List ℕ) → t ≡ after_run is_unescaped s → slice_index t 0 ≡ 34
     → (s ≡ before s t ++ 34 ∷ drop 1 t) × (HasBackslash (before s t) → ⊥)
 run_inside s t e at =

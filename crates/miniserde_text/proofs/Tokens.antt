@@ -57,7 +57,7 @@ as_word : (w : List ℕ) (e : Step) {g : Step} {t r : List ℕ} → Piece e w �
 as_word w e {g = g} {t = t} {r = r} h k f =
     let q = word_takes w e g t r f in subst (λ x. TakesToken t x r) q.0 ((w, h, q.1), k)
 
--- if t begins with the token of d and then u, and d and u are e and r, t begins with the token of e and then r
+-- if t is the token of d and then u, and the pair of d and u is that of e and r, t is the token of e and then r
 read_as : (d : Step) {t u r : List ℕ} {e : Step} → TakesToken t d u
     → ◌≡◌ {A = Option (Step × List ℕ)} (Some (d, u)) (Some (e, r)) → TakesToken t e r
 read_as d {t = t} p f = subst (λ x. TakesToken t x.0 x.1) (same_Some _ _ f) p
