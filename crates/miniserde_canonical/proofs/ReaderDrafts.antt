@@ -16,7 +16,7 @@ use Rattle.miniserde_model.specs.declared.kind.Kind.{Kind}
 use Rattle.miniserde_model.specs.declared.kind.Kind.TheVariants.{Seq, Map}
 use Rattle.miniserde_model.proofs.TreeEvents.{space_append}
 use Rattle.miniserde_model.proofs.LongestRuns.{same_run}
-use Rattle.miniserde_model.proofs.Prefixes.{whitespace_passes}
+use Rattle.miniserde_model.proofs.Prefixes.{space_run}
 use Rattle.miniserde_text.specs.Lexer.{Blank}
 use Rattle.miniserde_text.proofs.FirstEvents.{piece_no_space, name_no_space}
 use Rattle.miniserde_text.proofs.NextChild.{begins_stops}
@@ -255,8 +255,7 @@ follows_behind k false false r b p = stands_behind b p
 -- what stands behind whitespace stands at its end
 stands_at : {P : List ℕ → Type 0} {s m r : List ℕ} → Blank s m → (p : Stands P s r) → StopsAt is_space (p.part ++ r) → Stands P m r
 stands_at {m = m} {r = r} b p h =
-    let same = same_run is_space b.space p.space m (p.part ++ r) (whitespace_passes b.space b.white)
-    (whitespace_passes p.space p.white) b.stops h (sym b.text ∙ p.text) in
+    let same = same_run (space_run b.text b.white b.stops) (space_run p.text p.white h) in
     record { space = []; part = p.part; text = same.1; white = tt; is_part = p.is_part }
 
 -- if m is s without its first whitespace and s begins with a value's first token, so does m

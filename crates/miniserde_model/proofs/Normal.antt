@@ -51,19 +51,17 @@ norm_twice = norm_after norm_neg norm_neg norm_neg neg_twice
 
 -- ---- a tree of Rust's values stays one
 
-trees_placed : (o : Ordering) (name : List ℕ) (t : Tree) (other : List ℕ) (u : Tree) (ms more : Members)
-    → IsUtf8 name → InRange t → MembersInRange (member other u ms) → MembersInRange more
-    → MembersInRange (match_ordering o (member name t (member other u ms)) (member other u ms) (member other u more))
-trees_placed Less name t other u ms more n h k m = (n, h, k)
-trees_placed Equal name t other u ms more n h k m = k
-trees_placed Greater name t other u ms more n h k m = (k.0, k.1, m)
-
 -- `with_if_absent` keeps members in range, if the name is UTF-8 and the tree is in range
 pub trees_with_first : (name : List ℕ) (t : Tree) (ms : Members) → IsUtf8 name → InRange t → MembersInRange ms
     → MembersInRange (with_if_absent name t ms)
 trees_with_first name t no_members n h k = (n, h, tt)
-trees_with_first name t (member other u ms) n h k =
-    trees_placed (text_cmp name other) name t other u ms _ n h k (trees_with_first name t ms n h k.2)
+trees_with_first name t (member other u ms) n h k = go (text_cmp name other) _ (trees_with_first name t ms n h k.2)
+  where
+    go : (o : Ordering) (more : Members) → MembersInRange more
+        → MembersInRange (match_ordering o (member name t (member other u ms)) (member other u ms) (member other u more))
+    go Less more m = (n, h, k)
+    go Equal more m = k
+    go Greater more m = (k.0, k.1, m)
 
 tree_neg : (z : ℤ) → z ≤ℤ pos 0 → unsigned_abs z ≤ 2 ^ 63 → InRange (norm_neg z)
 tree_neg (pos n) h k = omega (arith, ints)

@@ -6,7 +6,7 @@ use Rattle.std.proofs.lemmas.Bool.Decides.{nat_tests}
 use Rattle.miniserde_model.specs.Tree.{Tree}
 use Rattle.miniserde_model.specs.Number.{IsDigit, IsInt, IsMinus, IsFraction, IsSign, IsExponent, IsNumberText, IsNumber, leaf}
 use Rattle.miniserde_model.specs.Bytes.{is_number_byte, StopsAt}
-use Rattle.miniserde_model.proofs.LongestRuns.{AllPass, same_run, pass_append}
+use Rattle.miniserde_model.proofs.LongestRuns.{AllPass, LongestRun, same_run, pass_append}
 use Rattle.miniserde_model.proofs.Prefixes.{Prefix}
 
 digit_byte : (c : ℕ) → IsDigit c → is_number_byte c ≡ true
@@ -50,8 +50,12 @@ number_pass x n =
     let more = pass_append is_number_byte n.int (n.fraction ++ n.exponent) (whole_pass n.int n.is_int) tail in
     rw n.text (pass_append is_number_byte n.minus _ (minus_pass n.minus n.is_minus) more)
 
+-- if s is the number text a and then x, which begins with no byte of a number, a is the longest run of such bytes
+pub number_run : {s a x : List ℕ} → s ≡ a ++ x → IsNumberText a → StopsAt is_number_byte x → LongestRun is_number_byte s a x
+number_run {a = a} e n k = record { text = e; pass = number_pass a n; stops = k }
+
 -- if a is a number with the leaf t, b one with u, x and y end numbers, and `a ++ x` is `b ++ y`: t is u, and x is y
 pub same_number : (t u : Tree) → Prefix (λ a. IsNumber a t) (λ b. IsNumber b u) (StopsAt is_number_byte) (t ≡ u)
 same_number t u a b x y p q sx sy e =
-    let run = same_run is_number_byte a b x y (number_pass a p.0) (number_pass b q.0) sx sy e in
+    let run = same_run (number_run refl p.0 sx) (number_run e q.0 sy) in
     (sym p.1 ∙ ap leaf run.0 ∙ q.1, run.1)

@@ -53,13 +53,6 @@ tails_alike name t ms ns r s h q = go (bytes_eq name q) refl
     go false e = sym (or_else_none (last_of q ms)) ∙ ap (λ y. or_else (last_of q ms) (cond y (Some t) None)) (sym e)
         ∙ h q ∙ ap (λ y. or_else (last_of q ns) (cond y (Some t) None)) e ∙ or_else_none (last_of q ns)
 
-same_first : (name : List ℕ) (t u : Tree) (ms ns : Members) → Rise (member name t ms) → Rise (member name u ns)
-    → Alike (member name t ms) (member name u ns) → (t ≡ u) × Alike ms ns
-same_first name t u ms ns r s h =
-    let some : Some t ≡ Some u = sym (at_first name t ms r.0 r.1) ∙ h name ∙ at_first name u ns s.0 s.1 in
-    let same : t ≡ u = cc in
-    (same, tails_alike name t ms ns r s (λ q. h q ∙ ap (λ z. last_of q (member name z ns)) (sym same)))
-
 -- two lists of members whose names rise are equal if each name has the same last tree in both
 pub one_rising : (ms ns : Members) → Rise ms → Rise ns → Alike ms ns → ms ≡ ns
 one_rising no_members no_members r s h = refl
@@ -74,10 +67,13 @@ one_rising (member name t ms) (member other u ns) r s h = go (text_cmp name othe
         (nat_list_cmp_total.antisymm other name ∙ ap ordering_reverse e) r) (at_first other u ns s.0 s.1))
     go Equal e more =
         let same : name ≡ other = exact_bytes name other e in
-        let both = same_first name t u ms ns r (subst (λ z. Rise (member z u ns)) (sym same) s)
-        (λ q. h q ∙ ap (λ z. last_of q (member z u ns)) (sym same)) in
-        let rest : ms ≡ ns = more both.1 in
-        cc (both.0)
+        let rises : Rise (member name u ns) = subst (λ z. Rise (member z u ns)) (sym same) s in
+        let alike : Alike (member name t ms) (member name u ns) = λ q. h q ∙ ap (λ z. last_of q (member z u ns)) (sym same) in
+        let some : Some t ≡ Some u = sym (at_first name t ms r.0 r.1) ∙ alike name ∙ at_first name u ns rises.0 rises.1 in
+        let first : t ≡ u = cc in
+        let rest : ms ≡ ns = more
+        (tails_alike name t ms ns r rises (λ q. alike q ∙ ap (λ z. last_of q (member name z ns)) (sym first))) in
+        cc
 
 -- ---- from the left
 

@@ -7,7 +7,7 @@ use Rattle.std.proofs.lemmas.Bool.Decides.{nat_tests}
 use Rattle.miniserde_model.specs.Whitespace.{IsSpace, IsWhitespace}
 use Rattle.miniserde_model.specs.Value.{Spaced, Named, Then, Between}
 use Rattle.miniserde_model.specs.Bytes.{is_space, StopsAt, is_number_byte}
-use Rattle.miniserde_model.proofs.LongestRuns.{AllPass, same_run}
+use Rattle.miniserde_model.proofs.LongestRuns.{AllPass, LongestRun, same_run}
 
 -- a byte that may stand behind a value and belong to it, or to the space around it
 abbrev pub goes_on : ℕ → Bool
@@ -45,6 +45,14 @@ pub whitespace_passes : (w : List ℕ) → IsWhitespace w → AllPass is_space w
 whitespace_passes [] h = tt
 whitespace_passes (c ∷ cs) h = (space_passes c h.0, whitespace_passes cs h.1)
 
+-- if s is the whitespace w and then x, which begins with none, w is the longest run of whitespace
+pub space_run : {s w x : List ℕ} → s ≡ w ++ x → IsWhitespace w → StopsAt is_space x → LongestRun is_space s w x
+space_run {w = w} e h k = record { text = e; pass = whitespace_passes w h; stops = k }
+
+-- the longest run of whitespace of a text that begins with none is empty
+pub no_space_run : (s : List ℕ) → StopsAt is_space s → LongestRun is_space s [] s
+no_space_run s h = record { text = refl; pass = tt; stops = h }
+
 space_no_number : (c : ℕ) → IsSpace c → is_number_byte c ≡ false
 space_no_number c (inl h) = rw h refl
 space_no_number c (inr (inl h)) = rw h refl
@@ -76,14 +84,11 @@ regroup a x p = ap (λ z. z ++ x) p.text ∙ append_assoc p.before (p.inner ++ p
 pub same_spaced : {P Q : List ℕ → Type 0} {R : Type 0} → Heads P → Heads Q → Prefix P Q (StopsAt is_number_byte) R
     → Prefix (Spaced P) (Spaced Q) AtEnd R
 same_spaced hp hq same a b x y p q sx sy e =
-    let f : p.before ++ (p.inner ++ (p.after ++ x)) ≡ q.before ++ (q.inner ++ (q.after ++ y)) = sym (regroup a x p) ∙ e ∙ regroup b y q in
-    let one = same_run is_space p.before q.before _ _ (whitespace_passes p.before p.is_before)
-    (whitespace_passes q.before q.is_before) (hp.no_space p.inner _ p.is_inner)
-    (hq.no_space q.inner _ q.is_inner) f in
+    let one = same_run (space_run (regroup a x p) p.is_before (hp.no_space p.inner (p.after ++ x) p.is_inner))
+    (space_run (e ∙ regroup b y q) q.is_before (hq.no_space q.inner (q.after ++ y) q.is_inner)) in
     let two = same p.inner q.inner _ _ p.is_inner q.is_inner (space_ends_number p.after x p.is_after sx)
     (space_ends_number q.after y q.is_after sy) one.1 in
-    let three = same_run is_space p.after q.after x y (whitespace_passes p.after p.is_after)
-    (whitespace_passes q.after q.is_after) (end_no_space x sx) (end_no_space y sy) two.1 in
+    let three = same_run (space_run refl p.is_after (end_no_space x sx)) (space_run two.1 q.is_after (end_no_space y sy)) in
     (two.0, three.1)
 
 -- `Prefix` holds of names, colons and values, if it holds of the names and of the values
@@ -131,7 +136,6 @@ pub record StandsApart (z : ℕ) (P : List ℕ → Type 0) : Type 0 where
 pub space_no_piece : {Q : List ℕ → Type 0} {z : ℕ} → StandsApart z Q → (a : List ℕ) {b : List ℕ} (x y : List ℕ)
     → IsWhitespace a → Spaced Q b → a ++ z ∷ x ≡ b ++ y → ⊥
 space_no_piece {z = z} apart a {b = b} x y w q e =
-    let one = same_run is_space a q.before (z ∷ x) (q.inner ++ (q.after ++ y)) (whitespace_passes a w)
-    (whitespace_passes q.before q.is_before) apart.byte_no_space (apart.heads.no_space q.inner _ q.is_inner)
-    (e ∙ regroup b y q) in
+    let one = same_run (space_run refl w apart.byte_no_space)
+    (space_run (e ∙ regroup b y q) q.is_before (apart.heads.no_space q.inner (q.after ++ y) q.is_inner)) in
     apart.begins_not q.inner (q.after ++ y) x q.is_inner (sym one.1)

@@ -19,8 +19,8 @@ use Rattle.miniserde_model.specs.declared.kind.Kind.TheVariants.{Seq}
 use Rattle.miniserde_model.specs.private.Reading.{due, first, after, StandsThen, Spells}
 use Rattle.miniserde_model.specs.Examples.{RefusedTexts}
 use Rattle.miniserde_model.proofs.LongestRuns.{AllPass, same_run}
-use Rattle.miniserde_model.proofs.Prefixes.{whitespace_passes, space_ends_number}
-use Rattle.miniserde_model.proofs.Numbers.{number_pass}
+use Rattle.miniserde_model.proofs.Prefixes.{space_run, no_space_run, space_ends_number}
+use Rattle.miniserde_model.proofs.Numbers.{number_run}
 use Rattle.miniserde_model.proofs.Unique.{kind, leading_kind, kind_below, known_no_space, value_head, value_heads, same_value}
 use Rattle.miniserde_model.proofs.TreeEvents.{front_byte_stops, json_spells}
 use Rattle.miniserde_model.proofs.ReadBack.{find_value}
@@ -44,8 +44,8 @@ value_kind t c r v x p e =
 
 at_front : (c : ℕ) (r : List ℕ) (t : Tree) → is_space c ≡ false → IsJson (c ∷ r) t → AtFront c r t
 at_front c r t s p =
-    let split = same_run is_space [] p.before (c ∷ r) (p.inner ++ p.after) tt
-    (whitespace_passes p.before p.is_before) s ((value_heads t).no_space p.inner p.after p.is_inner) p.text in
+    let split = same_run (no_space_run (c ∷ r) s)
+    (space_run p.text p.is_before ((value_heads t).no_space p.inner p.after p.is_inner)) in
     record {
       value = p.inner;
       space = p.after;
@@ -79,10 +79,8 @@ whole_number : (c : ℕ) (r : List ℕ) (t : Tree) → leading_kind c ≡ 3 → 
 whole_number c r t k h p =
     let f = at_front c r t (known_no_space c (omega (arith, k))) p in
     let n = number_of t f.value (sym k ∙ f.of_kind) f.is_value in
-    let e : f.value ++ (f.space ++ []) ≡ (c ∷ r) ++ [] = ap (λ z. f.value ++ z) (append-nil f.space) ∙ sym f.text
-    ∙ sym (append-nil (c ∷ r)) in
-    let run = same_run is_number_byte f.value (c ∷ r) (f.space ++ []) [] (number_pass f.value n) h
-    (space_ends_number f.space [] f.white tt) tt e in
+    let ends = subst (StopsAt is_number_byte) (append-nil f.space) (space_ends_number f.space [] f.white tt) in
+    let run = same_run (number_run f.text n ends) (record { text = sym (append-nil (c ∷ r)); pass = h; stops = tt }) in
     subst IsNumberText run.0 n
 
 unsigned : (c : ℕ) (r m w : List ℕ) → IsMinus m → (c ≡ 45 → ⊥) → c ∷ r ≡ m ++ w → c ∷ r ≡ w
@@ -147,7 +145,7 @@ front_byte : (c d : ℕ) (r : List ℕ) (K : List ℕ → Type 0) → is_space c
     → StandsThen (IsByte d) K (c ∷ r) → (c ≡ d) × K r
 front_byte c d r K hc hd p =
     let stop : StopsAt is_space (p.part ++ p.rest) = rw (p.is_part) hd in
-    let split = same_run is_space [] p.space (c ∷ r) (p.part ++ p.rest) tt (whitespace_passes p.space p.white) hc stop p.text in
+    let split = same_run (no_space_run (c ∷ r) hc) (space_run p.text p.white stop) in
     let f : ◌≡◌ {A = List ℕ} (c ∷ r) (d ∷ p.rest) = split.1 ∙ ap (λ z. z ++ p.rest) p.is_part in
     let rest : r ≡ p.rest = cc in
     (cc, subst K (sym rest) p.is_rest)
@@ -156,8 +154,8 @@ no_value_due : (c : ℕ) (r : List ℕ) (es : List Step) (st : List Kind) → is
     → Spells due es st (c ∷ r) → ⊥
 no_value_due c r es st s k p =
     let v = find_value (length es) es st (c ∷ r) (omega arith) p in
-    let split = same_run is_space [] v.space (c ∷ r) (v.value ++ v.rest) tt (whitespace_passes v.space v.white) s
-    ((value_heads v.found).no_space v.value v.rest v.is_value) v.text in
+    let split = same_run (no_space_run (c ∷ r) s)
+    (space_run v.text v.white ((value_heads v.found).no_space v.value v.rest v.is_value)) in
     omega (arith, k, value_kind v.found c r v.value v.rest v.is_value split.1, kind_below v.found)
 
 opened : (r : List ℕ) (t : Tree) → 5 ≡ kind t → IsJson (91 ∷ r) t → (es : List Step) × Spells first es (Seq ∷ []) r
@@ -192,8 +190,8 @@ value_comma : (t : Tree) (b r : List ℕ) (es : List Step) (st : List Kind) → 
     → Spells due es (Seq ∷ st) (b ++ 44 ∷ r) → (left : List Step) × Spells due left (Seq ∷ st) r
 value_comma t b r es st v p =
     let f = find_value (length es) es (Seq ∷ st) (b ++ 44 ∷ r) (omega arith) p in
-    let front = same_run is_space [] f.space (b ++ 44 ∷ r) (f.value ++ f.rest) tt (whitespace_passes f.space f.white)
-    ((value_heads t).no_space b (44 ∷ r) v) ((value_heads f.found).no_space f.value f.rest f.is_value) f.text in
+    let front = same_run (no_space_run (b ++ 44 ∷ r) ((value_heads t).no_space b (44 ∷ r) v))
+    (space_run f.text f.white ((value_heads f.found).no_space f.value f.rest f.is_value)) in
     let same = same_value t f.found b f.value (44 ∷ r) f.rest v f.is_value refl
     (element_stops f.left st f.rest f.is_rest) front.1 in
     comma_after r f.left st (subst (Spells after f.left (Seq ∷ st)) (sym same.1) f.is_rest)

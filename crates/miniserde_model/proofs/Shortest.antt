@@ -302,18 +302,15 @@ counted_first : (s : List ℕ) (t : Tree) (ms : Members) → counted (member s t
 unfolding counted
 counted_first s t ms = omega arith
 
-counted_placed : (o : Ordering) (s : List ℕ) (t : Tree) (r : List ℕ) (u : Tree) (ms more : Members)
-    → counted more ≤ counted (member s t ms) → counted (match_ordering o (member s t (member r u ms)) (member r u ms)
-    (member r u more)) ≤ counted
-    (member s t (member r u ms))
-counted_placed Less s t r u ms more h = omega arith
-counted_placed Equal s t r u ms more h = omega (arith, counted_cons s t (member r u ms))
-counted_placed Greater s t r u ms more h =
-    omega (arith, counted_cons s t (member r u ms), counted_cons r u ms, counted_cons r u more, counted_cons s t ms)
-
 counted_with : (s : List ℕ) (t : Tree) (ms : Members) → counted (with_if_absent s t ms) ≤ counted (member s t ms)
 counted_with s t no_members = omega arith
-counted_with s t (member r u ms) = counted_placed (text_cmp s r) s t r u ms (with_if_absent s t ms) (counted_with s t ms)
+counted_with s t (member r u ms) = go (text_cmp s r) (with_if_absent s t ms) (counted_with s t ms)
+  where
+    go : (o : Ordering) (more : Members) → counted more ≤ counted (member s t ms)
+        → counted (match_ordering o (member s t (member r u ms)) (member r u ms) (member r u more)) ≤ counted (member s t (member r u ms))
+    go Less more h = omega arith
+    go Equal more h = omega (arith, counted_cons s t (member r u ms))
+    go Greater more h = omega (arith, counted_cons s t (member r u ms), counted_cons r u ms, counted_cons r u more, counted_cons s t ms)
 
 abbrev is_some_member : Members → Bool
 is_some_member no_members = false

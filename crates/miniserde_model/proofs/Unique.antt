@@ -18,7 +18,7 @@ use Rattle.miniserde_model.proofs.Numbers.{same_number}
 use Rattle.miniserde_model.proofs.Strings.{same_string}
 use Rattle.miniserde_model.specs.Bytes.{is_space}
 use Rattle.miniserde_model.proofs.Prefixes.{Prefix, PrefixFree, StandsApart, AtEnd, Closes, Heads, BeginsNot}
-use Rattle.miniserde_model.proofs.Prefixes.{whitespace_passes, same_spaced, same_named, same_then, same_between, space_no_piece}
+use Rattle.miniserde_model.proofs.Prefixes.{space_run, same_spaced, same_named, same_then, same_between, space_no_piece}
 
 -- ---- a value is told by its first byte
 
@@ -122,7 +122,7 @@ name_apart : (s : List ℕ) (z : ℕ) → is_space z ≡ false → leading_kind 
 name_apart s z hs hz = record { byte_no_space = hs; heads = name_heads s; begins_not = name_not s z hz }
 
 -- two texts that begin alike begin with bytes of one kind
-same_kind : {i j : ℕ} {a b : List ℕ} (x y : List ℕ) → Head a i → Head b j → a ++ x ≡ b ++ y → i ≡ j
+pub same_kind : {i j : ℕ} {a b : List ℕ} (x y : List ℕ) → Head a i → Head b j → a ++ x ≡ b ++ y → i ≡ j
 same_kind x y h k e =
     let f : ◌≡◌ {A = List ℕ} (h.byte ∷ (h.rest ++ x)) (k.byte ∷ (k.rest ++ y)) = ap (λ z. z ++ x) (sym h.is) ∙ e ∙ ap (λ z. z ++ y) k.is in
     let same : h.byte ≡ k.byte = cc in
@@ -162,7 +162,7 @@ same_truth false true a b x y p q e = absurd (clash_at {c = 102} {d = 116} x y p
 -- `Prefix` holds of whitespace before the byte z, if z is none
 same_whitespace : {R : Type 0} (z : ℕ) → is_space z ≡ false → R → Prefix IsWhitespace IsWhitespace (Closes z) R
 same_whitespace z hz r a b x y p q cx cy e =
-    (r, (same_run is_space a b x y (whitespace_passes a p) (whitespace_passes b q) (rw (cx.1) hz) (rw (cy.1) hz) e).1)
+    (r, (same_run (space_run refl p (rw (cx.1) hz)) (space_run e q (rw (cy.1) hz))).1)
 
 spaced_name : (s r : List ℕ) → Prefix (Spaced (λ n. IsString n s)) (Spaced (λ n. IsString n r)) AtEnd (s ≡ r)
 spaced_name s r = same_spaced (name_heads s) (name_heads r) (λ a b x y p q sx sy e. same_string s r a b x y p q e)

@@ -1,7 +1,8 @@
 -- A token taken from the text consumes its event: every list of events on which the text goes on begins with that
 -- event. One lemma for each event (`passed_start`, `passed_close`, `passed_element`, `passed_key`), by cases on the
 -- container and on whether it was just opened; `Consumes-append` composes them.
-use Rattle.std.proofs.Common.{◌≡◌, ℕ, Bool, true, false, Some, is_some, List, [], ◌∷◌, ◌++◌, refl, sym, ap, subst, ◌∙◌, append_assoc}
+use Rattle.std.proofs.Common.{◌≡◌, ℕ, ◌⊎◌, inl, inr, Bool, true, false, Some, is_some, List, [], ◌∷◌, ◌++◌, refl, sym, ap}
+use Rattle.std.proofs.Common.{subst, ◌∙◌, append_assoc}
 use Rattle.miniserde_model.specs.Step.{Step, element, key, finish}
 use Rattle.miniserde_model.specs.Lexing.{Starts, Names, Follows}
 use Rattle.miniserde_model.specs.declared.kind.Kind.{Kind}
@@ -59,11 +60,6 @@ passed_close k f {st = st} p = record { on = close_on k f st p; back = close_bac
 
 -- ---- an element
 
-element_on : (f : Bool) (st : List Kind) (s b : List ℕ) → Follows Seq f false s b → (es : List Step) (r : List ℕ)
-    → Runs due es (Seq ∷ st) b r → Runs (first_or_after f) (element ∷ es) (Seq ∷ st) s r
-element_on true st s b p es r h = (b, p, h)
-element_on false st s b p es r h = (b, p, h)
-
 element_back : (f : Bool) {st : List Kind} (s : List ℕ) {b : List ℕ} → Follows Seq f false s b → (es : List Step) (r : List ℕ)
     → Runs (first_or_after f) es (Seq ∷ st) s r → (rest : List Step) × (es ≡ element ∷ rest)
     × Runs due rest (Seq ∷ st) b r
@@ -77,14 +73,10 @@ element_back _ s p _ r h = absurd h
 
 pub passed_element : (f : Bool) {st : List Kind} {s b : List ℕ} → Follows Seq f false s b
     → Consumes (text_at (first_or_after f) (Seq ∷ st) s) (element ∷ []) (text_at due (Seq ∷ st) b)
-passed_element f {st = st} {s = s} {b = b} p = record { on = element_on f st s b p; back = element_back f s p; live = tt }
+passed_element true {s = s} {b = b} p = record { on = λ es r h. (b, p, h); back = element_back true s p; live = tt }
+passed_element false {s = s} {b = b} p = record { on = λ es r h. (b, p, h); back = element_back false s p; live = tt }
 
 -- ---- a member
-
-key_on : (f : Bool) (st : List Kind) (s : List ℕ) {b n c : List ℕ} → Follows Map f false s b → Names b n c
-    → (es : List Step) (r : List ℕ) → Runs due es (Map ∷ st) c r → Runs (first_or_after f) (key n ∷ es) (Map ∷ st) s r
-key_on true st s {b = b} {c = c} p q es r h = (b, c, p, q, h)
-key_on false st s {b = b} {c = c} p q es r h = (b, c, p, q, h)
 
 named : {b b' n m c d : List ℕ} → b' ≡ b → Names b n c → Names b' m d → (m ≡ n) × (d ≡ c)
 named {b = b} {n = n} {m = m} {c = c} {d = d} e p q = same_name b m n d c (subst (λ z. Names z m d) e q) p
@@ -104,7 +96,10 @@ key_back _ s p q _ r h = absurd h
 
 pub passed_key : (f : Bool) {st : List Kind} {s b n c : List ℕ} → Follows Map f false s b → Names b n c
     → Consumes (text_at (first_or_after f) (Map ∷ st) s) (key n ∷ []) (text_at due (Map ∷ st) c)
-passed_key f {st = st} {s = s} p q = record { on = key_on f st s p q; back = key_back f s p q; live = tt }
+passed_key true {s = s} {b = b} {c = c} p q =
+    record { on = λ es r h. (b, c, p, q, h); back = key_back true s p q; live = tt }
+passed_key false {s = s} {b = b} {c = c} p q =
+    record { on = λ es r h. (b, c, p, q, h); back = key_back false s p q; live = tt }
 
 -- ---- by the innermost container
 
@@ -140,13 +135,14 @@ runs_follow Map true (key n ∷ es) st s r h = (false, h.0, h.2)
 runs_follow Map false (key n ∷ es) st s r h = (false, h.0, h.2)
 runs_follow _ _ _ st s r h = absurd h
 
-runs_name : (f : Bool) (es : List Step) (st : List Kind) (s b r : List ℕ) → Follows Map f false s b
-    → Runs (first_or_after f) es (Map ∷ st) s r → (n c : List ℕ) × Names b n c
-runs_name true (key n ∷ es) st s b r p h = (n, h.1, subst (λ z. Names z n h.1) (next_same Map true s h.0 b h.2 p) h.3)
-runs_name false (key n ∷ es) st s b r p h = (n, h.1, subst (λ z. Names z n h.1) (next_same Map false s h.0 b h.2 p) h.3)
-runs_name true (finish ∷ es) st s b r p h = absurd (close_no_next Map true s h.0 b h.1 p)
-runs_name false (finish ∷ es) st s b r p h = absurd (close_no_next Map false s h.0 b h.1 p)
-runs_name _ _ st s b r p h = absurd h
+-- if events run on inside an object, its closing bracket or a member with its name is next
+runs_name : (f : Bool) (es : List Step) (st : List Kind) (s r : List ℕ) → Runs (first_or_after f) es (Map ∷ st) s r
+    → ((b : List ℕ) × Follows Map f true s b) ⊎ ((b n c : List ℕ) × Follows Map f false s b × Names b n c)
+runs_name true (finish ∷ es) st s r h = inl (h.0, h.1)
+runs_name false (finish ∷ es) st s r h = inl (h.0, h.1)
+runs_name true (key n ∷ es) st s r h = inr (h.0, n, h.1, h.2, h.3)
+runs_name false (key n ∷ es) st s r h = inr (h.0, n, h.1, h.2, h.3)
+runs_name _ _ st s r h = absurd h
 
 runs_start : (es : List Step) (st : List Kind) (s r : List ℕ) → Runs due es st s r → (e : Step) × (b : List ℕ) × Starts s e b
 runs_start [] st s r h = absurd h
@@ -165,9 +161,11 @@ after_ends st {s = s} k f h n es r g =
 pub name_ends : (st : List Kind) (s : List ℕ) {b : List ℕ} (k : Kind) (f : Bool) → innermost st ≡ Some k → k ≡ Map
     → Follows k f false s b → ((n x : List ℕ) → Names b n x → ⊥) → NeverRuns (text_at (first_or_after f) st s)
 name_ends st s {b = b} k f h e p n es r g =
-    let t = runs_name f es (outer st) s b r (subst (λ z. Follows z f false s b) e p)
-    (subst (λ z. Runs (first_or_after f) es z s r) (split_top st Map (h ∙ ap Some e)) g) in
-    n t.0 t.1 t.2
+    let q = subst (λ z. Follows z f false s b) e p in
+    elim (runs_name f es (outer st) s r (subst (λ z. Runs (first_or_after f) es z s r) (split_top st Map (h ∙ ap Some e)) g)) [
+      | inl t ↦ close_no_next Map f s t.0 b t.1 q
+      | inr t ↦ n t.1 t.2 (subst (λ z. Names z t.1 t.2) (next_same Map f s t.0 b t.3 q) t.4)
+    ]
 
 -- if a value is due and the text starts with none, no prefix of the text closes all containers
 pub start_ends : (st : List Kind) {s : List ℕ} → ((e : Step) (r : List ℕ) → Starts s e r → ⊥) → NeverRuns (text_at due st s)

@@ -11,14 +11,12 @@ copied_utf8 n k copied zeros fits z h =
     rw h (IsUtf8-from_ascii _
     (IsAscii-take (decimal n ++ zeros) k (IsAscii-append (decimal n) zeros (IsAscii-decimal n fits) z)))
 
--- a cut behind the digits leaves them
-pub cut_behind : (n k at : ℕ) (old copied zeros pushed new : List ℕ) → copied ≡ decimal n ++ zeros
-    → length (decimal n) ≤ k → at ≡ length old + length (decimal n) → pushed ≡ old ++ take k copied
-    → new ≡ take at pushed → new ≡ old ++ decimal n
-cut_behind n k at old copied zeros pushed new h few place p cut =
-    let d = decimal n in
+-- if the first k of the bytes d and zeros are appended to old, and all of d is among them, a cut behind d leaves old and d
+pub cut_behind : (old d zeros : List ℕ) (k at : ℕ) → length d ≤ k → at ≡ length old + length d
+    → take at (old ++ take k (d ++ zeros)) ≡ old ++ d
+cut_behind old d zeros k at few place =
     let rest : k ≡ length d + (k - length d) = omega (arith, few) in
     let some : take k (d ++ zeros) ≡ d ++ take (k - length d) zeros =
     ap (λ m. take m (d ++ zeros)) rest ∙ take-append-add d zeros (k - length d) in
-    rw (cut, p, h, place, some, take-append-add old (d ++ take (k - length d) zeros) (length d))
+    rw (place, some, take-append-add old (d ++ take (k - length d) zeros) (length d))
     (ap (λ b. old ++ b) (take-append_seam d (take (k - length d) zeros)))

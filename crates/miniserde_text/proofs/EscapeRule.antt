@@ -11,7 +11,7 @@ use Rattle.std.specs.List.{AllByRecursion}
 use Rattle.miniserde_model.specs.Bytes.{is_special}
 use Rattle.miniserde_model.proofs.Written.{high_stays, low_stays}
 use Rattle.miniserde_model.specs.Compact.{string_text}
-use Rattle.miniserde_text.specs.private.Escape.{escape, escapes}
+use Rattle.miniserde_text.specs.private.Escape.{escape, escapes, IsPlainRun}
 use Rattle.miniserde_text.specs.laws.Escapes.{escapes-append}
 
 -- a byte that may stand for itself does
@@ -67,9 +67,8 @@ pub length_escapes_le : (xs : List ℕ) (i : ℕ) → length (escapes (take i xs
 length_escapes_le xs i = omega (arith, length_escapes_cut xs i)
 
 -- a run of bytes with none to escape
-pub escapes_run : (xs : List ℕ) (i j : ℕ) → i ≤ j → j ≤ length xs
-    → ((k : ℕ) → i ≤ k → k < j → is_special (get_or xs k 0) ≡ false) → escapes (take j xs) ≡ escapes (take i xs)
-    ++ take (j - i) (drop i xs)
+pub escapes_run : (xs : List ℕ) (i j : ℕ) → i ≤ j → j ≤ length xs → IsPlainRun xs i j
+    → escapes (take j xs) ≡ escapes (take i xs) ++ take (j - i) (drop i xs)
 escapes_run xs i j l h plain =
     let front : take j xs ≡ take i xs ++ take (j - i) (drop i xs) = ap (λ n. take n xs) (omega arith) ∙ take-add i (j - i) xs in
     let same : escapes (take (j - i) (drop i xs)) ≡ take (j - i) (drop i xs) =
@@ -79,8 +78,7 @@ escapes_run xs i j l h plain =
     rw (front, escapes-append) (ap (λ t. escapes (take i xs) ++ t) same)
 
 -- a run of plain bytes from i to j makes the escapes j - i bytes longer
-pub length_escapes_run : (xs : List ℕ) (i j : ℕ) → i ≤ j → j ≤ length xs
-    → ((k : ℕ) → i ≤ k → k < j → is_special (get_or xs k 0) ≡ false)
+pub length_escapes_run : (xs : List ℕ) (i j : ℕ) → i ≤ j → j ≤ length xs → IsPlainRun xs i j
     → length (escapes (take j xs)) + i ≡ length (escapes (take i xs)) + j
 length_escapes_run xs i j l h plain =
     omega (
@@ -136,10 +134,9 @@ pub quoted_escapes : (s : List ℕ) → string_text s ≡ 34 ∷ (escapes s ++ 3
 unfolding string_text escapes escape
 quoted_escapes s = refl
 
--- a quote, what stands between the quotes, and a quote
-pub between_quotes : (old mid a b new v : List ℕ) → mid ≡ old → a ≡ mid ++ 34 ∷ [] → b ≡ a ++ escapes v
-    → new ≡ b ++ 34 ∷ [] → new ≡ old ++ string_text v
-between_quotes old mid a b new v h i j k = rw (k, j, i, h, quoted_escapes v) (simp append_assoc refl)
+-- old, a quote, the escapes of v and a quote are old and the string of v
+pub between_quotes : (old v : List ℕ) → ((old ++ 34 ∷ []) ++ escapes v) ++ 34 ∷ [] ≡ old ++ string_text v
+between_quotes old v = rw (quoted_escapes v) (simp append_assoc)
 
 -- how long that is
 pub length_quoted : (v : List ℕ) → length (string_text v) ≡ 2 + length (escapes v)

@@ -303,19 +303,19 @@ unicode_unit a c h t s =
     ap (option_and_then (λ x. cond (is_high x.0) (low_at x.0 x.1) (cond (is_low x.0) None (Some x)))) (unit_only a c h t)
     ∙ ap (λ b. cond b (low_at c t) (cond (is_low c) None (Some (c, t)))) n.0 ∙ ap (λ b. cond b None (Some (c, t))) n.1
 
-low_only : (u : ℕ) (a : List ℕ) (v : ℕ) (h : IsUnit a v) (t : List ℕ) → is_low v ≡ true
+low_only : (u : ℕ) {a : List ℕ} {v : ℕ} (h : IsUnit a v) (t : List ℕ) → is_low v ≡ true
     → low_at u (92 ∷ 117 ∷ h.d3 ∷ h.d2 ∷ h.d1 ∷ h.d0 ∷ t) ≡ Some (pair_of u v, t)
-low_only u a v h t m =
+low_only u {a = a} {v = v} h t m =
     ap (option_and_then (λ x. cond (is_low x.0) (Some (pair_of u x.0, x.1)) None)) (unit_only a v h t)
     ∙ ap (λ b. cond b (Some (pair_of u v, t)) None) m
 
-unicode_pair : (a b : List ℕ) (u v : ℕ) (h : IsUnit a u) (l : IsUnit b v) (t : List ℕ) → is_high u ≡ true → is_low v ≡ true
+unicode_pair : {a b : List ℕ} {u v : ℕ} (h : IsUnit a u) (l : IsUnit b v) (t : List ℕ) → is_high u ≡ true → is_low v ≡ true
     → unicode_at (h.d3 ∷ h.d2 ∷ h.d1 ∷ h.d0 ∷ 92 ∷ 117 ∷ l.d3 ∷ l.d2 ∷ l.d1 ∷ l.d0 ∷ t) ≡ Some (pair_of u v, t)
 unfolding unicode_at
-unicode_pair a b u v h l t n m =
+unicode_pair {a = a} {u = u} h l t n m =
     let rest : List ℕ = 92 ∷ 117 ∷ l.d3 ∷ l.d2 ∷ l.d1 ∷ l.d0 ∷ t in
     ap (option_and_then (λ x. cond (is_high x.0) (low_at x.0 x.1) (cond (is_low x.0) None (Some x)))) (unit_only a u h rest)
-    ∙ ap (λ b. cond b (low_at u rest) (cond (is_low u) None (Some (u, rest)))) n ∙ low_only u b v l t m
+    ∙ ap (λ b. cond b (low_at u rest) (cond (is_low u) None (Some (u, rest)))) n ∙ low_only u l t m
 
 escape_u : (t : List ℕ) → escape_at (117 ∷ t) ≡ unicode_at t
 unfolding escape_at
@@ -347,7 +347,7 @@ pair_escape p c h =
     h.text ∙ ap (λ x. x ++ h.second) a.text ∙ ap (λ x. 92 ∷ 117 ∷ a.d3 ∷ a.d2 ∷ a.d1 ∷ a.d0 ∷ x) b.text in (
       117 ∷ a.d3 ∷ a.d2 ∷ a.d1 ∷ a.d0 ∷ 92 ∷ 117 ∷ b.d3 ∷ b.d2 ∷ b.d1 ∷ b.d0 ∷ [],
       text,
-      λ t. escape_u _ ∙ unicode_pair h.first h.second h.high h.low a b t
+      λ t. escape_u _ ∙ unicode_pair a b t
           (high_passes h.high h.is_high.0 h.is_high.1) (low_passes h.low h.is_low.0 h.is_low.1)
           ∙ ap (λ x. Some (x, t)) (sym h.character),
     )

@@ -1,23 +1,26 @@
 -- A text begins with at most one first event of a value, and the text behind it is shorter. The first byte determines
--- the class of the event (`same_class`), and within a class both events and both rests are equal (`same_piece`).
+-- the class of the event (`piece_head`), and within a class both events and both rests are equal (`same_token`).
 use Rattle.std.proofs.Common.{◌≡◌, ℕ, ◌<◌, false, Option, Some, None, is_some, List, [], ◌∷◌, ◌++◌, length, codes}
 use Rattle.std.proofs.Common.{refl, sym, ap, ◌∙◌, append_assoc, arith, length-append}
 use Rattle.miniserde_model.specs.Tree.{Tree, null, truth, nonneg, neg, num, str}
 use Rattle.miniserde_model.specs.Whitespace.{IsWhitespace}
 use Rattle.miniserde_model.specs.Step.{Step, boolean, string, negative, nonnegative, float, seq, element, map, key, finish}
 use Rattle.miniserde_model.specs.Step as step
-use Rattle.miniserde_model.specs.Bytes.{StopsAt}
-use Rattle.miniserde_model.specs.Lexing.{IsByte, IsName, Stands, Piece, Ends, Starts, Names, Begins}
+use Rattle.miniserde_model.specs.Number.{IsNumber}
+use Rattle.miniserde_model.specs.Bytes.{StopsAt, is_space, is_number_byte}
+use Rattle.miniserde_model.specs.Lexing.{IsByte, IsName, Stands, Piece, Starts, Names, Begins}
 use Rattle.miniserde_model.specs.declared.kind.Kind.{Kind}
 use Rattle.miniserde_model.specs.private.Reading.{due, StandsThen, Spells}
 use Rattle.miniserde_model.proofs.LongestRuns.{same_run}
 use Rattle.miniserde_model.proofs.Numbers.{same_number}
 use Rattle.miniserde_model.proofs.Strings.{same_string}
-use Rattle.miniserde_model.specs.Bytes.{is_space}
-use Rattle.miniserde_model.proofs.Prefixes.{whitespace_passes}
-use Rattle.miniserde_model.proofs.Unique.{leading_kind, Head, value_head, head_no_space, string_head, same_word, same_truth}
+use Rattle.miniserde_model.proofs.Prefixes.{space_run}
+use Rattle.miniserde_model.proofs.Unique.{Head, value_head, head_no_space, string_head, same_kind, same_word, same_truth}
+use Rattle.miniserde_text.specs.private.Reading.{after_run}
+use Rattle.miniserde_text.specs.private.LexerParts.{BeginsWith, TakesToken}
 use Rattle.miniserde_text.specs.private.Stack.{with_opened}
 use Rattle.miniserde_text.specs.private.Moments.{opened_kind, first_or_after, MomentFits}
+use Rattle.miniserde_text.proofs.ByteRuns.{stands_only}
 
 -- ---- the first byte
 
@@ -83,54 +86,39 @@ name_head n b p =
 pub name_no_space : (n b r : List ℕ) → IsName n b → StopsAt is_space (b ++ r)
 name_no_space n b r p = head_no_space b r 4 (omega arith) (name_head n b p)
 
--- behind whitespace the byte c stands
-pub record First (s : List ℕ) (c : ℕ) : Type 0 where
+-- the text s is whitespace, then the byte c, which is none, and then r
+pub record First (s : List ℕ) (c : ℕ) (r : List ℕ) : Type 0 where
   pub space : List ℕ
-  pub more : List ℕ
-  pub text : s ≡ space ++ (c ∷ more)
+  pub text : s ≡ space ++ (c ∷ r)
   pub is_whitespace : IsWhitespace space
   pub no_space : is_space c ≡ false
 
--- a text has at most one first byte after whitespace
-pub same_first : (s : List ℕ) (c d : ℕ) → First s c → First s d → c ≡ d
-same_first s c d p q =
-    let one = same_run is_space p.space q.space (c ∷ p.more) (d ∷ q.more)
-    (whitespace_passes p.space p.is_whitespace) (whitespace_passes q.space q.is_whitespace) p.no_space
-    q.no_space (sym p.text ∙ q.text) in
-    let two : ◌≡◌ {A = List ℕ} (c ∷ p.more) (d ∷ q.more) = one.1 in
-    cc
+-- a text has at most one first byte after whitespace, and one rest after that byte
+pub same_first : {s : List ℕ} {c d : ℕ} {r x : List ℕ} → First s c r → First s d x → (c ≡ d) × (r ≡ x)
+same_first {c = c} {d = d} {r = r} {x = x} p q =
+    let both : ◌≡◌ {A = List ℕ} (c ∷ r) (d ∷ x) =
+    (same_run (space_run p.text p.is_whitespace p.no_space) (space_run q.text q.is_whitespace q.no_space)).1 in
+    (cc, cc)
 
 -- if s has the byte c after whitespace, and c is no whitespace, c is its first byte after whitespace
-pub first_byte : (c : ℕ) (s r : List ℕ) → is_space c ≡ false → Stands (IsByte c) s r → First s c
-first_byte c s r h p = record {
+pub first_byte : (c : ℕ) {s r : List ℕ} → is_space c ≡ false → Stands (IsByte c) s r → First s c r
+first_byte c {r = r} h p = record {
   space = p.space;
-  more = r;
   text = p.text ∙ ap (λ z. p.space ++ (z ++ r)) p.is_part;
-  is_whitespace =
-      p.white;
+  is_whitespace = p.white;
   no_space = h;
 }
 
 -- if r begins a child, and s is whitespace and then r, the byte of r is the first of s after whitespace
-pub begins_first : (s r : List ℕ) → Stands (λ b. b ≡ []) s r → (b : Begins r) → First s b.byte
-begins_first s r p b = record {
+pub begins_first : {s r : List ℕ} → Stands (λ b. b ≡ []) s r → (b : Begins r) → First s b.byte b.more
+begins_first {r = r} p b = record {
   space = p.space;
-  more = b.more;
-  text = p.text ∙ ap (λ z. p.space ++ (z ++ r)) p.is_part
-      ∙ ap (λ z. p.space ++ z) b.text;
+  text = p.text ∙ ap (λ z. p.space ++ (z ++ r)) p.is_part ∙ ap (λ z. p.space ++ z) b.text;
   is_whitespace = p.white;
   no_space = b.no_space;
 }
 
 -- ---- one front
-
-same_class : (e f : Step) (a b x y : List ℕ) → Piece e a → Piece f b → a ++ x ≡ b ++ y → class e ≡ class f
-same_class e f a b x y p q h =
-    let u = piece_head e a p in
-    let v = piece_head f b q in
-    let g : ◌≡◌ {A = List ℕ} (u.byte ∷ (u.rest ++ x)) (v.byte ∷ (v.rest ++ y)) = ap (λ z. z ++ x) (sym u.is) ∙ h ∙ ap (λ z. z ++ y) v.is in
-    let same : u.byte ≡ v.byte = cc in
-    sym u.of_kind ∙ ap leading_kind same ∙ v.of_kind
 
 abbrev leaf_event : Tree → Step
 leaf_event (nonneg n) = nonnegative n
@@ -138,54 +126,43 @@ leaf_event (neg n) = negative n
 leaf_event (num x) = float x
 leaf_event _ = step.null
 
-same_piece : (e f : Step) (a b x y : List ℕ) → Piece e a → Piece f b → Ends e x → Ends f y → a ++ x ≡ b ++ y → (e ≡ f) × (x ≡ y)
-same_piece step.null step.null a b x y p q sx sy h = (refl, same_word (codes "null") p q h)
-same_piece (boolean v) (boolean w) a b x y p q sx sy h = let both = same_truth v w a b x y p q h in (ap boolean both.0, both.1)
-same_piece (string s) (string r) a b x y p q sx sy h = let both = same_string s r a b x y p q h in (ap string both.0, both.1)
-same_piece (negative n) (negative m) a b x y p q sx sy h = let both =
-    same_number (neg n) (neg m) a b x y p q sx sy h in (ap leaf_event both.0, both.1)
-same_piece (negative n) (nonnegative m) a b x y p q sx sy h = let both =
-    same_number (neg n) (nonneg m) a b x y p q sx sy h in (ap leaf_event both.0, both.1)
-same_piece (negative n) (float m) a b x y p q sx sy h = let both =
-    same_number (neg n) (num m) a b x y p q sx sy h in (ap leaf_event both.0, both.1)
-same_piece (nonnegative n) (negative m) a b x y p q sx sy h = let both =
-    same_number (nonneg n) (neg m) a b x y p q sx sy h in (ap leaf_event both.0, both.1)
-same_piece (nonnegative n) (nonnegative m) a b x y p q sx sy h = let both =
-    same_number (nonneg n) (nonneg m) a b x y p q sx sy h in (ap leaf_event both.0, both.1)
-same_piece (nonnegative n) (float m) a b x y p q sx sy h = let both =
-    same_number (nonneg n) (num m) a b x y p q sx sy h in (ap leaf_event both.0, both.1)
-same_piece (float n) (negative m) a b x y p q sx sy h = let both =
-    same_number (num n) (neg m) a b x y p q sx sy h in (ap leaf_event both.0, both.1)
-same_piece (float n) (nonnegative m) a b x y p q sx sy h = let both =
-    same_number (num n) (nonneg m) a b x y p q sx sy h in (ap leaf_event both.0, both.1)
-same_piece (float n) (float m) a b x y p q sx sy h = let both = same_number (num n) (num m) a b x y p q sx sy h in
-    (ap leaf_event both.0, both.1)
-same_piece seq seq a b x y p q sx sy h = (refl, same_word (91 ∷ []) p q h)
-same_piece map map a b x y p q sx sy h = (refl, same_word (123 ∷ []) p q h)
-same_piece element f a b x y p q sx sy h = absurd p
-same_piece (key s) f a b x y p q sx sy h = absurd p
-same_piece finish f a b x y p q sx sy h = absurd p
-same_piece e f a b x y p q sx sy h = let k : class e ≡ class f = same_class e f a b x y p q h in absurd (omega arith)
+-- a text begins with at most one number that no byte of a number follows
+same_number_token : (t u : Tree) {s r x : List ℕ} → BeginsWith (λ b. IsNumber b t) s r × StopsAt is_number_byte r
+    → BeginsWith (λ b. IsNumber b u) s x × StopsAt is_number_byte x → (leaf_event t ≡ leaf_event u) × (r ≡ x)
+same_number_token t u {r = r} {x = x} ((a, p, j), sx) ((b, q, k), sy) =
+    let both = same_number t u a b r x p q sx sy (sym j ∙ k) in (ap leaf_event both.0, both.1)
+
+-- a text begins with at most one token: two have one event and one rest
+same_token : (s : List ℕ) (e f : Step) (r x : List ℕ) → TakesToken s e r → TakesToken s f x → (e ≡ f) × (r ≡ x)
+same_token s step.null step.null r x ((a, p, j), sx) ((b, q, k), sy) = (refl, same_word (codes "null") p q (sym j ∙ k))
+same_token s (boolean v) (boolean w) r x ((a, p, j), sx) ((b, q, k), sy) =
+    let both = same_truth v w a b r x p q (sym j ∙ k) in (ap boolean both.0, both.1)
+same_token s (string v) (string w) r x ((a, p, j), sx) ((b, q, k), sy) =
+    let both = same_string v w a b r x p q (sym j ∙ k) in (ap string both.0, both.1)
+same_token s (negative n) (negative m) r x p q = same_number_token (neg n) (neg m) p q
+same_token s (negative n) (nonnegative m) r x p q = same_number_token (neg n) (nonneg m) p q
+same_token s (negative n) (float m) r x p q = same_number_token (neg n) (num m) p q
+same_token s (nonnegative n) (negative m) r x p q = same_number_token (nonneg n) (neg m) p q
+same_token s (nonnegative n) (nonnegative m) r x p q = same_number_token (nonneg n) (nonneg m) p q
+same_token s (nonnegative n) (float m) r x p q = same_number_token (nonneg n) (num m) p q
+same_token s (float n) (negative m) r x p q = same_number_token (num n) (neg m) p q
+same_token s (float n) (nonnegative m) r x p q = same_number_token (num n) (nonneg m) p q
+same_token s (float n) (float m) r x p q = same_number_token (num n) (num m) p q
+same_token s seq seq r x ((a, p, j), sx) ((b, q, k), sy) = (refl, same_word (91 ∷ []) p q (sym j ∙ k))
+same_token s map map r x ((a, p, j), sx) ((b, q, k), sy) = (refl, same_word (123 ∷ []) p q (sym j ∙ k))
+same_token s element f r x p q = absurd p.0.1
+same_token s (key n) f r x p q = absurd p.0.1
+same_token s finish f r x p q = absurd p.0.1
+same_token s e f r x ((a, p, j), sx) ((b, q, k), sy) =
+    let same : class e ≡ class f = same_kind r x (piece_head e a p) (piece_head f b q) (sym j ∙ k) in
+    absurd (omega arith)
 
 -- a text begins with at most one first token of a value: two have one event and one rest
 pub same_start : (s : List ℕ) (e f : Step) (r x : List ℕ) → Starts s e r → Starts s f x → (e ≡ f) × (r ≡ x)
 same_start s e f r x p q =
-    let a = p.0 in let b = q.0 in
-    let one = same_run is_space a.space b.space (a.part ++ r) (b.part ++ x) (whitespace_passes a.space a.white)
-    (whitespace_passes b.space b.white) (piece_no_space e a.part r a.is_part)
-    (piece_no_space f b.part x b.is_part) (sym a.text ∙ b.text) in
-    same_piece e f a.part b.part r x a.is_part b.is_part p.1 q.1 one.1
-
--- two bytes that s has after whitespace, neither of them whitespace, are equal, and so are the rests
-pub same_byte : (c d : ℕ) (s r x : List ℕ) → is_space c ≡ false → is_space d ≡ false → Stands (IsByte c) s r
-    → Stands (IsByte d) s x → (c ≡ d) × (r ≡ x)
-same_byte c d s r x hc hd p q =
-    let one = same_run is_space p.space q.space (c ∷ r) (d ∷ x) (whitespace_passes p.space p.white)
-    (whitespace_passes q.space q.white) hc hd
-    (ap (λ z. p.space ++ (z ++ r)) (sym p.is_part) ∙ sym p.text ∙ q.text ∙ ap (λ z. q.space ++ (z ++ x))
-    q.is_part) in
-    let two : ◌≡◌ {A = List ℕ} (c ∷ r) (d ∷ x) = one.1 in
-    (cc, cc)
+    let t : List ℕ = after_run is_space s in
+    same_token t e f r x (stands_only (Piece e) s t r (λ b. piece_no_space e b r) refl p.0, p.1)
+    (stands_only (Piece f) s t x (λ b. piece_no_space f b x) refl q.0, q.1)
 
 colon : (a w r : List ℕ) → (a ++ (w ++ 58 ∷ [])) ++ r ≡ a ++ (w ++ 58 ∷ r)
 colon a w r = simp append_assoc
@@ -193,15 +170,13 @@ colon a w r = simp append_assoc
 -- a text begins with at most one name and its colon: two have one text and one rest
 pub same_name : (s n m r x : List ℕ) → Names s n r → Names s m x → (n ≡ m) × (r ≡ x)
 same_name s n m r x p q =
-    let one = same_run is_space p.space q.space (p.part ++ r) (q.part ++ x) (whitespace_passes p.space p.white)
-    (whitespace_passes q.space q.white) (name_no_space n p.part r p.is_part)
-    (name_no_space m q.part x q.is_part) (sym p.text ∙ q.text) in
+    let one = same_run (space_run p.text p.white (name_no_space n p.part r p.is_part))
+    (space_run q.text q.white (name_no_space m q.part x q.is_part)) in
     let a = p.is_part in let b = q.is_part in
     let two = same_string n m a.spelled b.spelled (a.space ++ 58 ∷ r) (b.space ++ 58 ∷ x) a.is_spelled b.is_spelled
     (sym (ap (λ z. z ++ r) a.text ∙ colon a.spelled a.space r) ∙ one.1 ∙ ap (λ z. z ++ x) b.text
     ∙ colon b.spelled b.space x) in
-    let three = same_run is_space a.space b.space (58 ∷ r) (58 ∷ x) (whitespace_passes a.space a.white)
-    (whitespace_passes b.space b.white) refl refl two.1 in
+    let three = same_run (space_run refl a.white refl) (space_run two.1 b.white refl) in
     let four : ◌≡◌ {A = List ℕ} (58 ∷ r) (58 ∷ x) = three.1 in
     (two.0, cc)
 

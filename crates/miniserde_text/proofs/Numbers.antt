@@ -5,8 +5,7 @@ use Rattle.std.proofs.Common.{◌∷◌, ◌++◌, length, take, drop, Some, Non
 use Rattle.std.proofs.Common.{eqb-true, eq-eqb, append_assoc}
 use Rattle.std.specs.Prelude.{◌⊎◌, slice_index, option_and_then}
 use Rattle.std.specs.List.{AllByRecursion, prefix_len}
-use Rattle.std.specs.Str.Parse.{digits_value}
-use Rattle.std.proofs.lemmas.List.{take-append-drop, length-take-le, get_or-drop}
+use Rattle.std.proofs.lemmas.List.{take-append-drop, length-take-le}
 use Rattle.std.proofs.lemmas.List.Sums.{prefix_len-le-length}
 use Rattle.std.proofs.lemmas.Bool.Decides.{nat_tests}
 use Rattle.std.proofs.lemmas.Bool.{true≢false}
@@ -270,52 +269,48 @@ before_exponent : (e r : List ℕ) → IsExponent e → is_number_byte (slice_in
 before_exponent e r (inl h) ends = let p = number_byte_parts _ ends in rw h (p.0, p.1)
 before_exponent e r (inr h) ends = let p = letter_passes h.0 h.4 in rw (h.3) (p.1, p.2)
 
-before_fraction : (f e r : List ℕ) → IsFraction f → IsExponent e → is_number_byte (slice_index r 0) ≡ false
-    → is_digit (slice_index (f ++ (e ++ r)) 0) ≡ false
-before_fraction f e r (inl h) k ends = rw h (before_exponent e r k ends).0
-before_fraction f e r (inr h) k ends = rw (h.1) refl
+-- no digit stands where a fraction and an exponent may begin
+tail_stops : (t r : List ℕ) → IsTail t → is_number_byte (slice_index r 0) ≡ false → is_digit (slice_index (t ++ r) 0) ≡ false
+tail_stops t r (f, e, inl h, k, j) ends = rw (j, h) (before_exponent e r k ends).0
+tail_stops t r (f, e, inr h, k, j) ends = rw (j, h.1) refl
+
+-- `after_tail` passes over a fraction and an exponent
+tail_only : (t r : List ℕ) → IsTail t → is_number_byte (slice_index r 0) ≡ false → after_tail (t ++ r) ≡ Some r
+tail_only t r (f, e, is_fraction, is_exponent, j) ends =
+    let parts = number_byte_parts (slice_index r 0) ends in
+    let at_e = before_exponent e r is_exponent ends in
+    ap (λ x. after_tail (x ++ r)) j ∙ ap after_tail (append_assoc f e r)
+    ∙ ap (option_and_then after_exponent) (fraction_only f (e ++ r) is_fraction at_e.0 at_e.1)
+    ∙ exponent_only e r is_exponent parts.0 parts.2
 
 sign_only : (m : Bool) (t : List ℕ) → (slice_index t 0 == 45) ≡ false → ((slice_index (sign_of m ++ t) 0 == 45) ≡ m)
     × (after_minus (sign_of m ++ t) ≡ t)
 sign_only true t h = (refl, refl)
 sign_only false t h = (h, ap (λ b. cond b (drop 1 t) t) h)
 
-read_parts : (m : Bool) (w f e r : List ℕ) → IsInt w → IsFraction f → IsExponent e → is_number_byte (slice_index r 0) ≡ false
-    → number_at (sign_of m ++ (w ++ (f ++ (e ++ r)))) ≡ Some (event_of_parts (sign_of m ++ (w ++ (f ++ e))) m w (f ++ e), r)
+-- a minus or none, an integer part w and a tail t are read as the event of these parts
+read_parts : (m : Bool) (w t r : List ℕ) → IsInt w → IsTail t → is_number_byte (slice_index r 0) ≡ false
+    → number_at (sign_of m ++ (w ++ (t ++ r))) ≡ Some (event_of_parts (sign_of m ++ (w ++ t)) m w t, r)
 unfolding number_at
-read_parts m w f e r is_int is_fraction is_exponent ends =
-    let rest : List ℕ = w ++ (f ++ (e ++ r)) in
-    let t : List ℕ = sign_of m ++ rest in
-    let s = sign_only m rest (int_has_no_minus w _ is_int) in
-    let parts = number_byte_parts (slice_index r 0) ends in
-    let at_e = before_exponent e r is_exponent ends in
-    let first : after_int (after_minus t) ≡ Some (f ++ (e ++ r)) =
-    ap after_int s.1 ∙ whole_only w _ is_int (before_fraction f e r is_fraction is_exponent ends) in
-    let last : after_tail (f ++ (e ++ r)) ≡ Some r =
-    ap (option_and_then after_exponent) (fraction_only f (e ++ r) is_fraction at_e.0 at_e.1) ∙ exponent_only e r
-    is_exponent parts.0 parts.2 in
-    let text : before t r ≡ sign_of m ++ (w ++ (f ++ e)) =
-    before_is t _ r (ap (λ x. sign_of m ++ x)
-    (ap (λ x. w ++ x) (sym (append_assoc f e r)) ∙ sym (append_assoc w (f ++ e) r))
-    ∙ sym (append_assoc (sign_of m) (w ++ (f ++ e)) r)) in
-    let int : before (after_minus t) (f ++ (e ++ r)) ≡ w = ap (λ x. before x (f ++ (e ++ r))) s.1 ∙ before_append w _ in
-    let tail : before (f ++ (e ++ r)) r ≡ f ++ e = before_is _ (f ++ e) r (sym (append_assoc f e r)) in
-    let event : event_at t (f ++ (e ++ r)) r ≡ Some (event_of_parts (sign_of m ++ (w ++ (f ++ e))) m w (f ++ e), r) =
+read_parts m w t r is_int is_tail ends =
+    let s : List ℕ = sign_of m ++ (w ++ (t ++ r)) in
+    let sign = sign_only m (w ++ (t ++ r)) (int_has_no_minus w _ is_int) in
+    let first : after_int (after_minus s) ≡ Some (t ++ r) = ap after_int sign.1 ∙ whole_only w _ is_int (tail_stops t r is_tail ends) in
+    let text : before s r ≡ sign_of m ++ (w ++ t) =
+    before_is s _ r (ap (λ x. sign_of m ++ x) (sym (append_assoc w t r)) ∙ sym (append_assoc (sign_of m) (w ++ t) r)) in
+    let int : before (after_minus s) (t ++ r) ≡ w = ap (λ x. before x (t ++ r)) sign.1 ∙ before_append w _ in
+    let event : event_at s (t ++ r) r ≡ Some (event_of_parts (sign_of m ++ (w ++ t)) m w t, r) =
     ap (λ b. cond b None (Some (
-      event_of_parts (before t r) (slice_index t 0 == 45) (before (after_minus t) (f ++ (e ++ r)))
-          (before (f ++ (e ++ r)) r),
+      event_of_parts (before s r) (slice_index s 0 == 45) (before (after_minus s) (t ++ r))
+          (before (t ++ r) r),
       r,
     ))) ends
-    ∙ ap (λ x. Some (event_of_parts x (slice_index t 0 == 45) (before (after_minus t) (f ++ (e ++ r))) (before (f ++ (e ++ r)) r), r)) text
-    ∙ ap (λ x. Some (
-      event_of_parts (sign_of m ++ (w ++ (f ++ e))) x (before (after_minus t) (f ++ (e ++ r)))
-          (before (f ++ (e ++ r)) r),
-      r,
-    )) s.0
-    ∙ ap (λ x. Some (event_of_parts (sign_of m ++ (w ++ (f ++ e))) m x (before (f ++ (e ++ r)) r), r)) int
-    ∙ ap (λ x. Some (event_of_parts (sign_of m ++ (w ++ (f ++ e))) m w x, r)) tail in
-    ap (option_and_then (λ x. option_and_then (λ y. event_at t x y) (after_tail x))) first
-    ∙ ap (option_and_then (λ y. event_at t (f ++ (e ++ r)) y)) last ∙ event
+    ∙ ap (λ x. Some (event_of_parts x (slice_index s 0 == 45) (before (after_minus s) (t ++ r)) (before (t ++ r) r), r)) text
+    ∙ ap (λ x. Some (event_of_parts (sign_of m ++ (w ++ t)) x (before (after_minus s) (t ++ r)) (before (t ++ r) r), r)) sign.0
+    ∙ ap (λ x. Some (event_of_parts (sign_of m ++ (w ++ t)) m x (before (t ++ r) r), r)) int
+    ∙ ap (λ x. Some (event_of_parts (sign_of m ++ (w ++ t)) m w x, r)) (before_append t r) in
+    ap (option_and_then (λ x. option_and_then (λ y. event_at s x y) (after_tail x))) first
+    ∙ ap (option_and_then (λ y. event_at s (t ++ r) y)) (tail_only t r is_tail ends) ∙ event
 
 minus_of : (x : List ℕ) → IsMinus x → (m : Bool) × (x ≡ sign_of m)
 minus_of x (inl h) = (false, h)
@@ -330,9 +325,9 @@ number_only b r n stops =
     let text : b ≡ sign_of m ++ (n.int ++ (n.fraction ++ n.exponent)) =
     n.text ∙ ap (λ x. x ++ (n.int ++ (n.fraction ++ n.exponent))) sign.1 in
     ap (λ x. number_at (x ++ r)) text
-    ∙ ap number_at (append_assoc (sign_of m) _ r ∙ ap (λ x. sign_of m ++ x)
-    (append_assoc n.int _ r ∙ ap (λ x. n.int ++ x) (append_assoc n.fraction n.exponent r)))
-    ∙ read_parts m n.int n.fraction n.exponent r n.is_int n.is_fraction n.is_exponent ends
+    ∙ ap number_at (append_assoc (sign_of m) _ r ∙ ap (λ x. sign_of m ++ x) (append_assoc n.int _ r))
+    ∙ read_parts m n.int (n.fraction ++ n.exponent) r n.is_int
+    (n.fraction, n.exponent, n.is_fraction, n.is_exponent, refl) ends
     ∙ ap (λ x. Some (x, r)) (number_event_of_text m n.int n.fraction n.exponent n.is_int n.is_fraction n.is_exponent
     ∙ ap (λ x. event_of (leaf x)) (sym text))
 
@@ -357,23 +352,17 @@ whole_of [] r h z = absurd (omega arith)
 whole_of (c ∷ []) r h z = one_digit (c == 48) c refl h.1.0
 whole_of (c ∷ d ∷ cs) r h z = whole_of_digits (c ∷ d ∷ (cs ++ r)) r (c ∷ d ∷ cs) refl (z (omega arith)) h
 
--- n digits of value v without a leading zero, after a minus or none, are read as the event of v
-pub short_read : (s t : List ℕ) (n v : ℕ) (e : Step) → t ≡ after_minus s → 0 < n → n ≤ prefix_len is_digit t
-    → (1 < n → (slice_index t 0 == 48) ≡ false) → is_number_byte (slice_index t n) ≡ false
-    → v ≡ digits_value 10 (take n t)
-    → ((text int : List ℕ) → digits_value 10 int ≡ v → event_of_parts text (slice_index s 0 == 45) int [] ≡ e)
-    → number_at s ≡ Some (e, drop n t)
-short_read s t n v e behind some digits away ends value event =
+-- n digits in front without a leading zero are an integer part
+pub front_int : (t : List ℕ) (n : ℕ) → 0 < n → n ≤ prefix_len is_digit t → (1 < n → (slice_index t 0 == 48) ≡ false) → IsInt (take n t)
+front_int t n some digits away =
+    let long : length (take n t) ≡ n = length-take-le n t (omega (arith, digits, prefix_len-le-length is_digit t)) in
+    whole_of (take n t) (drop n t) (omega (arith, long), front_digits n t digits)
+    (λ many. ap (λ x. slice_index x 0 == 48) (take-append-drop n t) ∙ away (omega (arith, long)))
+
+-- an integer part w after a minus or none, with no byte of a number after it, is read as the event of its parts
+pub int_read : (s w r : List ℕ) → after_minus s ≡ w ++ r → IsInt w → is_number_byte (slice_index r 0) ≡ false
+    → number_at s ≡ Some (event_of_parts (sign_of (slice_index s 0 == 45) ++ (w ++ [])) (slice_index s 0 == 45) w [], r)
+int_read s w r j is_int ends =
     let m : Bool = slice_index s 0 == 45 in
-    let w : List ℕ = take n t in
-    let r : List ℕ = drop n t in
-    let j : w ++ r ≡ t = take-append-drop n t in
-    let long : length w ≡ n = length-take-le n t (omega (arith, digits, prefix_len-le-length is_digit t)) in
-    let int : IsInt w = whole_of w r (omega (arith, long), front_digits n t digits)
-    (λ many. ap (λ x. slice_index x 0 == 48) j ∙ away (omega (arith, long))) in
-    let here : n + 0 ≡ n = omega arith in
-    let stop : is_number_byte (slice_index r 0) ≡ false = ap is_number_byte (get_or-drop n t 0 0 ∙ ap (λ k. slice_index t k) here) ∙ ends in
-    let read : number_at (sign_of m ++ (w ++ r)) ≡ Some (event_of_parts (sign_of m ++ (w ++ [])) m w [], r) =
-    read_parts m w [] [] r int (inl refl) (inl refl) stop in
-    ap number_at (minus_takes s ∙ ap (λ x. sign_of m ++ x) (sym (j ∙ behind))) ∙ read ∙ ap (λ x. Some (x, r))
-    (event (sign_of m ++ (w ++ [])) w (sym value))
+    ap number_at (minus_takes s ∙ ap (λ x. sign_of m ++ x) j)
+    ∙ read_parts m w [] r is_int ([], [], inl refl, inl refl, refl) ends

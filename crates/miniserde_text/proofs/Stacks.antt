@@ -12,7 +12,7 @@ use Rattle.std.proofs.lemmas.Nat.{and_mask}
 use Rattle.std.proofs.lemmas.Nat.Bits.{shr_and_one}
 use Rattle.miniserde_model.specs.declared.kind.Kind.{Kind}
 use Rattle.miniserde_model.specs.declared.kind.Kind.TheVariants.{Seq, Map}
-use Rattle.miniserde_text.specs.private.Stack.{bit_of, kind_by, kind_at, stack_of, innermost, outer}
+use Rattle.miniserde_text.specs.private.Stack.{bit_of, kind_by, kind_at, stack_of, SetsBit, innermost, outer}
 
 -- of the words only the kinds at the levels count
 same_kinds : (ws vs : List ℕ) (n : ℕ) → ((i : ℕ) → i < n → kind_at ws i ≡ kind_at vs i) → stack_of ws n ≡ stack_of vs n
@@ -54,41 +54,35 @@ below_stays ws n w l h i b =
     ]
 
 -- level n is opened by its bit
-opened : (ws : List ℕ) (n w : ℕ) (k : Kind) → n / 64 < length ws → bit_at w (n % 64) ≡ bit_of k
-    → ((i : ℕ) → i < 64 → i ≢ n % 64 → bit_at w i ≡ bit_at (get_or ws (n / 64) 0) i)
+opened : (ws : List ℕ) (n : ℕ) {w : ℕ} {k : Kind} → n / 64 < length ws → SetsBit (get_or ws (n / 64) 0) (n % 64) k w
     → stack_of (set ws (n / 64) w) (suc n) ≡ k ∷ stack_of ws n
-opened ws n w k l e h =
+opened ws n {w = w} {k = k} l b =
     let here : kind_at (set ws (n / 64) w) n ≡ k =
-    ap (λ z. kind_by (bit_at z (n % 64))) (get_or-set_same ws (n / 64) w 0 l) ∙ ap kind_by e ∙ kind_by_bit k in
-    let rest : stack_of (set ws (n / 64) w) n ≡ stack_of ws n = same_kinds (set ws (n / 64) w) ws n (below_stays ws n w l h) in
+    ap (λ z. kind_by (bit_at z (n % 64))) (get_or-set_same ws (n / 64) w 0 l) ∙ ap kind_by b.here ∙ kind_by_bit k in
+    let rest : stack_of (set ws (n / 64) w) n ≡ stack_of ws n = same_kinds (set ws (n / 64) w) ws n (below_stays ws n w l b.others) in
     ap (λ z. z ∷ stack_of (set ws (n / 64) w) n) here ∙ ap (λ st. k ∷ st) rest
 
--- the same by the word x that was read, over the stack st
-pub stack_opened : (ws : List ℕ) (n m x w : ℕ) (k : Kind) (st : List Kind) → m ≡ n + 1 → n / 64 < length ws
-    → x ≡ get_or ws (n / 64) x → bit_at w (bit_and n 63) ≡ bit_of k
-    → ((i : ℕ) → i < 64 → i ≢ bit_and n 63 → bit_at w i ≡ bit_at x i) → stack_of ws n ≡ st
-    → stack_of (set ws (n / 64) w) m ≡ k ∷ st
-stack_opened ws n m x w k st s l r e h v =
-    let next : m ≡ suc n = omega (arith, s) in
+-- the same by the word x that was read
+pub stack_opened : (ws : List ℕ) (n x : ℕ) {w : ℕ} {k : Kind} → n / 64 < length ws → x ≡ get_or ws (n / 64) x
+    → SetsBit x (bit_and n 63) k w → stack_of (set ws (n / 64) w) (n + 1) ≡ k ∷ stack_of ws n
+stack_opened ws n x {w = w} {k = k} l r b =
+    let next : n + 1 ≡ suc n = omega arith in
     let word : x ≡ get_or ws (n / 64) 0 = r ∙ get_or_default ws (n / 64) x 0 l in
-    let here : bit_at w (n % 64) ≡ bit_of k = ap (bit_at w) (sym (place n)) ∙ e in
-    ap (stack_of (set ws (n / 64) w)) next ∙ opened ws n w k l here
-    (λ i b d. h i b (λ q. d (q ∙ place n)) ∙ ap (λ z. bit_at z i) word) ∙ ap (λ z. k ∷ z) v
+    rw next (opened ws n l (rw (← word, ← place n) b))
 
 top_at : (ws : List ℕ) (n m : ℕ) → m + 1 ≡ n → innermost (stack_of ws n) ≡ Some (kind_at ws m)
 top_at ws zero m e = absurd (omega arith)
 top_at ws (suc n) m e = let same : n ≡ m = omega arith in ap (λ z. Some (kind_at ws z)) same
 
 -- the innermost kind is that of the last level's bit in its word x
-pub stack_top : (ws : List ℕ) (n m x : ℕ) (st : List Kind) → m + 1 ≡ n → n ≤ 64 * length ws
-    → x ≡ get_or ws (m / 64) x → stack_of ws n ≡ st → Some (kind_by (bit_and (x / 2 ^ bit_and m 63) 1))
-    ≡ innermost st
-stack_top ws n m x st e f r v =
+pub stack_top : (ws : List ℕ) (n m x : ℕ) → m + 1 ≡ n → n ≤ 64 * length ws → x ≡ get_or ws (m / 64) x
+    → Some (kind_by (bit_and (x / 2 ^ bit_and m 63) 1)) ≡ innermost (stack_of ws n)
+stack_top ws n m x e f r =
     let l : m / 64 < length ws = omega (arith, e, f) in
     let word : x ≡ get_or ws (m / 64) 0 = r ∙ get_or_default ws (m / 64) x 0 l in
     let bit : bit_and (x / 2 ^ bit_and m 63) 1 ≡ bit_at (get_or ws (m / 64) 0) (m % 64) =
     shr_and_one x (bit_and m 63) ∙ ap (bit_at x) (place m) ∙ ap (λ z. bit_at z (m % 64)) word in
-    ap (λ z. Some (kind_by z)) bit ∙ sym (top_at ws n m e) ∙ ap innermost v
+    ap (λ z. Some (kind_by z)) bit ∙ sym (top_at ws n m e)
 
 -- a bit that isn't 1
 pub bit_clear : (a : ℕ) → (bit_and a 1 ≡ 1 → ⊥) → bit_and a 1 ≡ 0

@@ -1,10 +1,10 @@
 -- `punctuation_at` takes exactly the closing bracket or the step to the next child that the grammar allows. By cases on
 -- the kind and on whether the container was just opened: each step taken is one of the grammar (`follows`), and each
--- one of the grammar is taken (`follows_refused`).
+-- one of the grammar is taken (`follows_only`).
 use Rattle.std.proofs.Common.{◌≡◌, ℕ, ◌≤◌, ◌==◌, Bool, true, false, cond, not, List, [], ◌∷◌, ◌++◌, length}
 use Rattle.std.proofs.Common.{length-drop, drop, Option, Some, None, refl, ap, sym, subst, ◌∙◌, inl, inr, arith}
 use Rattle.std.proofs.Common.{eqb-true, append-nil}
-use Rattle.std.specs.Prelude.{slice_index, is_some}
+use Rattle.std.specs.Prelude.{slice_index}
 use Rattle.std.proofs.lemmas.Bool.{true≢false}
 use Rattle.std.proofs.lemmas.List.{drop_all}
 use Rattle.std.proofs.lemmas.Bool.Decides.{nat_tests}
@@ -66,16 +66,17 @@ step_goes k first t a r s e = elim (chosen (slice_index t 0 == closing k) _ _ _ 
   | inr p ↦ other k first t a r s p.1
 ]
 
-stands_step : (k : Kind) (first a : Bool) (s t r : List ℕ) → t ≡ after_run is_space s → Goes k first a t r → Follows k first a s r
-stands_step k first true s t r e h = stands_of (IsByte (closing k)) s t r e h
-stands_step k true false s t r e h = (stands_of (λ b. b ≡ []) s t r e h.0, h.1)
-stands_step k false false s t r e h = stands_of (IsByte 44) s t r e h
+stands_step : (k : Kind) (first : Bool) (s t : List ℕ) (x : Bool × List ℕ) → t ≡ after_run is_space s → Goes k first x.0 t x.1
+    → Follows k first x.0 s x.1
+stands_step k first s t (true, r) e h = stands_of (IsByte (closing k)) s t r e h
+stands_step k true s t (false, r) e h = (stands_of (λ b. b ≡ []) s t r e h.0, h.1)
+stands_step k false s t (false, r) e h = stands_of (IsByte 44) s t r e h
 
--- if t is s after its whitespace, and `punctuation_at` takes a from t and leaves r, `Follows` holds for a and r
-pub follows : (k : Kind) (first : Bool) (s t : List ℕ) (a : Bool) (r : List ℕ) → t ≡ after_run is_space s
-    → punctuation_at k first t ≡ Some (a, r) → Follows k first a s r
-follows k first s t a r e h =
-    stands_step k first a s t r e (step_goes k first t a r (ap (λ x. is_space (slice_index x 0)) e ∙ run_stops is_space refl s) h)
+-- if t is s after its whitespace, and `punctuation_at` reads x from t, `Follows` holds for both parts of x
+pub follows : (k : Kind) (first : Bool) (s t : List ℕ) (x : Bool × List ℕ) → t ≡ after_run is_space s
+    → punctuation_at k first t ≡ Some x → Follows k first x.0 s x.1
+follows k first s t x e h =
+    stands_step k first s t x e (step_goes k first t x.0 x.1 (ap (λ x. is_space (slice_index x 0)) e ∙ run_stops is_space refl s) h)
 
 -- ---- what the grammar has is read
 
@@ -113,22 +114,18 @@ unfolding punctuation_at
 comma_step Seq t r b h e = rw (e, h) refl
 comma_step Map t r b h e = rw (e, h) refl
 
-follows_only : (k : Kind) (first : Bool) (s t : List ℕ) (a : Bool) (r : List ℕ) → t ≡ after_run is_space s
-    → Follows k first a s r → punctuation_at k first t ≡ Some (a, r)
-follows_only k first s t true r e h =
+-- if t is s after its whitespace, and `Follows` holds for both parts of x, `punctuation_at` reads x from t
+pub follows_only : (k : Kind) (first : Bool) (s t : List ℕ) (x : Bool × List ℕ) → t ≡ after_run is_space s
+    → Follows k first x.0 s x.1 → punctuation_at k first t ≡ Some x
+follows_only k first s t (true, r) e h =
     let l = stands_only (IsByte (closing k)) s t r (byte_first (closing k) (closing_no_space k) r) e h in
     close_step k first t r l.0 l.1 l.2
-follows_only k true s t false r e h =
+follows_only k true s t (false, r) e h =
     let l = stands_only (λ b. b ≡ []) s t r (λ b. begins_first r b h.1) e h.0 in
     first_step k t r l.0 l.1 l.2 h.1
-follows_only k false s t false r e h =
+follows_only k false s t (false, r) e h =
     let l = stands_only (IsByte 44) s t r (byte_first 44 refl r) e h in
     comma_step k t r l.0 l.1 l.2
-
--- if t is s after its whitespace, and `punctuation_at` takes nothing from t, `Follows` holds for no a and r
-pub follows_refused : (k : Kind) (first : Bool) (s t : List ℕ) → t ≡ after_run is_space s
-    → punctuation_at k first t ≡ None → (a : Bool) (r : List ℕ) → Follows k first a s r → ⊥
-follows_refused k first s t e none a r h = true≢false (sym (ap is_some (follows_only k first s t a r e h)) ∙ ap is_some none)
 
 -- ---- the end
 

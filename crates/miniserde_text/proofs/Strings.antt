@@ -73,23 +73,20 @@ passes_then ds es t u v h k = record {
       (b.0, a.1 ∙ ap (λ l. ds ++ l) b.1 ∙ sym (append_assoc ds es b.0), b.2);
 }
 
-back_of : (p : List ℕ) (c : ℕ) (t u : List ℕ) → IsPiece p c → t ≡ p ++ u → (cs r : List ℕ) → SpellsUpToQuote cs t r
+back_of : (c : ℕ) (t u : List ℕ) → BeginsWith (λ p. IsPiece p c) t u → (cs r : List ℕ) → SpellsUpToQuote cs t r
     → (es : List ℕ) × (cs ≡ (c ∷ []) ++ es) × SpellsUpToQuote es u r
-back_of p c t u h e [] r x = elim (piece_first p c u h) [
+back_of c t u (p, h, e) [] r x = elim (piece_first p c u h) [
   | inl s ↦ let f : 34 ≡ 92 = sym (ap (λ l. slice_index l 0) x) ∙ ap (λ l. slice_index l 0) e ∙ s in
       absurd (true≢false (ap (λ n. n == 34) f))
   | inr s ↦ let f : is_unescaped 34 ≡ true = sym (ap (λ l. is_unescaped (slice_index l 0)) x)
       ∙ ap (λ l. is_unescaped (slice_index l 0)) e ∙ s in absurd (true≢false (sym f))
 ]
-back_of p c t u h e (d ∷ cs) r (q, v, k, f, x) =
+back_of c t u (p, h, e) (d ∷ cs) r (q, v, k, f, x) =
     let same = same_piece c d p q u v h k (sym e ∙ f) in
     (cs, ap (λ l. l ∷ cs) (sym same.0), subst (λ l. SpellsUpToQuote cs l r) (sym same.1) x)
 
-piece_passes : (p : List ℕ) (c : ℕ) (t u : List ℕ) → IsPiece p c → t ≡ p ++ u → PassesCharacters (c ∷ []) t u
-piece_passes p c t u h e = record {
-  on = λ cs r x. (p, u, h, e, x);
-  back = λ cs r x. back_of p c t u h e cs r x;
-}
+piece_passes : (c : ℕ) (t u : List ℕ) → BeginsWith (λ p. IsPiece p c) t u → PassesCharacters (c ∷ []) t u
+piece_passes c t u p = record { on = λ cs r x. (p.0, u, p.1, p.2, x); back = back_of c t u p }
 
 pass_split : (a b : List ℕ) → AllPass is_unescaped (a ++ b) → AllPass is_unescaped a × AllPass is_unescaped b
 pass_split [] b h = (tt, h)
@@ -122,8 +119,11 @@ raws_pass (d ∷ ds) u s h =
     let sc = and_parts (scalar d) _ s in
     let e = pass_split (encode_utf8 d) (encode_utf8_all ds) h in
     passes_then (d ∷ []) ds _ (encode_utf8_all ds ++ u) u
-    (piece_passes (encode_utf8 d) d _ _ (raw_piece d sc.0 (raw_plain d e.0 (nat_lt d 128) refl))
-    (append_assoc (encode_utf8 d) (encode_utf8_all ds) u)) (raws_pass ds u sc.1 e.1)
+    (piece_passes d _ _ (
+      encode_utf8 d,
+      raw_piece d sc.0 (raw_plain d e.0 (nat_lt d 128) refl),
+      append_assoc (encode_utf8 d) (encode_utf8_all ds) u,
+    )) (raws_pass ds u sc.1 e.1)
 
 run_passes : (b u : List ℕ) → IsUtf8 b → AllPass is_unescaped b → (ds : List ℕ) × PassesCharacters ds (b ++ u) u × (b ≡ encode_utf8_all ds)
 run_passes b u (ds, (s, e)) h = (
@@ -228,21 +228,17 @@ module _ (f : List ℕ → List ℕ) (joins : (a b : List ℕ) → f (a ++ b) �
       → c ≡ b ++ f (encode_utf8 x) → Adds f a c s u
   escape_adds a b c s t x u h e m =
       let q = escape_takes t x u e in
-      let p = piece_passes (92 ∷ q.0) x (92 ∷ t) u q.1 (ap (λ y. 92 ∷ y) q.2) in
+      let p = piece_passes x (92 ∷ t) u (92 ∷ q.0, q.1, ap (λ y. 92 ∷ y) q.2) in
       adds_then a b c s (92 ∷ t) u h (x ∷ [], p, m ∙ ap (λ y. b ++ f y) (sym (append-nil (encode_utf8 x))))
 
 -- a text that begins with a backslash is a backslash and the text after it
 pub at_backslash : (s : List ℕ) (i j : ℕ) → slice_index (drop i s) 0 ≡ 92 → drop j s ≡ drop 1 (drop i s) → drop i s ≡ 92 ∷ drop j s
 at_backslash s i j e n = first_byte (drop i s) 91 e ∙ ap (λ x. 92 ∷ x) (sym n)
 
--- if the characters ds are passed up to t, and t spells cs up to a quote, s spells ds ++ cs up to that quote
-pub join_chars : (ds cs s t r : List ℕ) → PassesCharacters ds s t → SpellsUpToQuote cs t r → SpellsUpToQuote (ds ++ cs) s r
-join_chars ds cs s t r p h = p.on cs r h
-
 -- if characters are passed up to t, and t spells none up to a quote, neither does s
-pub run_refused : (ds s t : List ℕ) → PassesCharacters ds s t → ((cs r : List ℕ) → SpellsUpToQuote cs t r → ⊥)
+pub run_refused : {ds s t : List ℕ} → PassesCharacters ds s t → ((cs r : List ℕ) → SpellsUpToQuote cs t r → ⊥)
     → (cs r : List ℕ) → SpellsUpToQuote cs s r → ⊥
-run_refused ds s t p never cs r h = let b = p.back cs r h in never b.0 r b.2
+run_refused p never cs r h = let b = p.back cs r h in never b.0 r b.2
 
 -- ---- strings as the grammar has them
 
@@ -295,16 +291,12 @@ plain_at (c ∷ a) b h = plain_at a b h.1
 plain_no_backslash : (x : List ℕ) → AllByRecursion (λ c. is_special c ≡ false) x → HasBackslash x → ⊥
 plain_no_backslash x h (a, b, e) = plain_at a b (subst (AllByRecursion (λ c. is_special c ≡ false)) e h)
 
--- a run up to a quote
-pub run_inside : (s t x r : List ℕ) → t ≡ after_run is_unescaped s → slice_index t 0 ≡ 34 → x ≡ before s t → r ≡ drop 1 t
-    → (inside : List ℕ) × (s ≡ inside ++ 34 ∷ r) × (inside ≡ x) × (HasBackslash inside → ⊥)
-run_inside s t x r e at k d =
-    let run = plain_run s t e in (
-      before s t,
-      run.1 ∙ ap (λ y. before s t ++ y) (first_byte t 33 at ∙ ap (λ y. 34 ∷ y) (sym d)),
-      sym k,
-      plain_no_backslash (before s t) run.0,
-    )
+-- if a quote follows the run of unescaped bytes, s is the run, that quote and more, and the run has no backslash
+pub run_inside : (s t : List ℕ) → t ≡ after_run is_unescaped s → slice_index t 0 ≡ 34
+    → (s ≡ before s t ++ 34 ∷ drop 1 t) × (HasBackslash (before s t) → ⊥)
+run_inside s t e at =
+    let run = plain_run s t e in
+    (run.1 ∙ ap (λ y. before s t ++ y) (first_byte t 33 at), plain_no_backslash (before s t) run.0)
 
 slash_first : (inside t r : List ℕ) → slice_index t 0 ≡ 92 → t ≡ inside ++ 34 ∷ r → (b : List ℕ) × (inside ≡ 92 ∷ b)
 slash_first [] t r at e = absurd (true≢false (sym (ap (λ l. slice_index l 0 == 34) e) ∙ ap (λ x. x == 34) at))

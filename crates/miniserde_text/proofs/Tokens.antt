@@ -10,7 +10,7 @@ use Rattle.std.proofs.lemmas.Bool.Decides.{Decides-eqb, nat_tests}
 use Rattle.std.proofs.lemmas.Bool.{true≢false}
 use Rattle.std.proofs.lemmas.List.Prefix.{front_rest}
 use Rattle.std.specs.Str.{encode_utf8_all}
-use Rattle.miniserde_model.specs.Tree.{Tree, null, truth, neg, nonneg, num, str}
+use Rattle.miniserde_model.specs.Tree.{Tree, neg, nonneg, num}
 use Rattle.miniserde_model.specs.Bytes.{is_space, is_number_byte, is_special, StopsAt}
 use Rattle.miniserde_model.specs.Number.{IsNumber}
 use Rattle.miniserde_model.specs.Value.{Between}
@@ -19,7 +19,7 @@ use Rattle.miniserde_model.specs.Step as step
 use Rattle.miniserde_model.specs.Lexing.{Piece, Ends, Starts}
 use Rattle.miniserde_model.proofs.LongestRuns.{AllPass}
 use Rattle.miniserde_model.proofs.Numbers.{number_pass}
-use Rattle.miniserde_model.proofs.Unique.{Head, value_head, value_heads, number_head, leading_kind}
+use Rattle.miniserde_model.proofs.Unique.{Head, number_head, leading_kind}
 use Rattle.miniserde_text.specs.declared.json.lex.Event as answer
 use Rattle.miniserde_text.specs.declared.json.lex.Event.TheVariants as event
 use Rattle.miniserde_text.specs.declared.json.lex.Text.{Text}
@@ -31,6 +31,7 @@ use Rattle.miniserde_text.specs.private.LexerParts.{SpellsUpToQuote, BeginsWith,
 use Rattle.miniserde_text.proofs.ByteRuns.{stops_at, stands_of, stands_only}
 use Rattle.std.proofs.lemmas.Option.{cond_some, same_Some}
 use Rattle.miniserde_text.proofs.Options.{chosen, first_byte, none_is_some}
+use Rattle.miniserde_text.proofs.FirstEvents.{class, piece_head, piece_no_space}
 use Rattle.miniserde_text.proofs.Leaves.{event_of, number_piece}
 use Rattle.miniserde_text.proofs.Numbers.{Numbered, number_takes, number_only}
 use Rattle.miniserde_text.proofs.Strings.{string_leads, string_chars}
@@ -52,14 +53,14 @@ word_only w e t r j =
 
 -- ---- what is read
 
-as_word : (w : List ℕ) (e g : Step) (t r : List ℕ) → Piece e w → Ends e r → word_at w e t ≡ Some (g, r) → TakesToken t g r
-as_word w e g t r h k f = let q = word_takes w e g t r f in subst (λ x. TakesToken t x r) q.0 ((w, h, q.1), k)
+as_word : (w : List ℕ) (e : Step) {g : Step} {t r : List ℕ} → Piece e w → Ends e r → word_at w e t ≡ Some (g, r) → TakesToken t g r
+as_word w e {g = g} {t = t} {r = r} h k f =
+    let q = word_takes w e g t r f in subst (λ x. TakesToken t x r) q.0 ((w, h, q.1), k)
 
-as_byte : (c : ℕ) (e g : Step) (t u r : List ℕ) → Piece e (c ∷ []) → Ends e r → t ≡ c ∷ u
-    → ◌≡◌ {A = Option (Step × List ℕ)} (Some (e, u)) (Some (g, r)) → TakesToken t g r
-as_byte c e g t u r h k j f =
-    let q = same_Some _ _ f in
-    subst (λ x. TakesToken t x r) (ap (λ x. x.0) q) ((c ∷ [], h, j ∙ ap (λ x. c ∷ x.1) q), k)
+-- if t is the token of d and then u, and the pair of d and u is that of e and r, t is the token of e and then r
+read_as : (d : Step) {t u r : List ℕ} {e : Step} → TakesToken t d u
+    → ◌≡◌ {A = Option (Step × List ℕ)} (Some (d, u)) (Some (e, r)) → TakesToken t e r
+read_as d {t = t} p f = subst (λ x. TakesToken t x.0 x.1) (same_Some _ _ f) p
 
 as_number : (t r : List ℕ) (e : Step) → Numbered t e r → TakesToken t e r
 as_number t r e n =
@@ -71,15 +72,15 @@ pub front_takes : (t : List ℕ) (e : Step) (r : List ℕ) → token_at t ≡ So
 unfolding token_by
 front_takes t e r h =
     elim (chosen (slice_index t 0 == 110) _ _ _ h) [
-      | inl p ↦ as_word (codes "null") step.null e t r refl tt p.1
+      | inl p ↦ as_word (codes "null") step.null refl tt p.1
       | inr p ↦ elim (chosen (slice_index t 0 == 116) _ _ _ p.1) [
-        | inl p ↦ as_word (codes "true") (boolean true) e t r refl tt p.1
+        | inl p ↦ as_word (codes "true") (boolean true) refl tt p.1
         | inr p ↦ elim (chosen (slice_index t 0 == 102) _ _ _ p.1) [
-          | inl p ↦ as_word (codes "false") (boolean false) e t r refl tt p.1
+          | inl p ↦ as_word (codes "false") (boolean false) refl tt p.1
           | inr p ↦ elim (chosen (slice_index t 0 == 91) _ _ _ p.1) [
-            | inl p ↦ as_byte 91 seq e t (drop 1 t) r refl tt (first_byte t 90 (eqb-true _ 91 p.0)) p.1
+            | inl p ↦ read_as seq ((91 ∷ [], refl, first_byte t 90 (eqb-true _ 91 p.0)), tt) p.1
             | inr p ↦ elim (chosen (slice_index t 0 == 123) _ _ _ p.1) [
-              | inl p ↦ as_byte 123 map e t (drop 1 t) r refl tt (first_byte t 122 (eqb-true _ 123 p.0)) p.1
+              | inl p ↦ read_as map ((123 ∷ [], refl, first_byte t 122 (eqb-true _ 123 p.0)), tt) p.1
               | inr p ↦ as_number t r e (number_takes t e r p.1)
             ]
           ]
@@ -136,26 +137,13 @@ front_refused t away none e r ((b, h, j), k) =
 
 -- ---- behind whitespace
 
-piece_first : (e : Step) (r b : List ℕ) → Piece e b → StopsAt is_space (b ++ r)
-piece_first step.null r b h = (value_heads null).no_space b r h
-piece_first (boolean x) r b h = (value_heads (truth x)).no_space b r h
-piece_first (string s) r b h = (value_heads (str s)).no_space b r h
-piece_first (negative n) r b h = (value_heads (neg n)).no_space b r h
-piece_first (nonnegative n) r b h = (value_heads (nonneg n)).no_space b r h
-piece_first (float x) r b h = (value_heads (num x)).no_space b r h
-piece_first seq r b h = rw h refl
-piece_first map r b h = rw h refl
-piece_first element r b h = absurd h
-piece_first (key s) r b h = absurd h
-piece_first finish r b h = absurd h
-
 -- if t is s after its whitespace, and t begins with a token, s has that token after whitespace
 pub start_takes : (s t : List ℕ) (e : Step) (r : List ℕ) → t ≡ after_run is_space s → TakesToken t e r → Starts s e r
 start_takes s t e r j h = (stands_of (Piece e) s t r j h.0, h.1)
 
 -- if t is s after its whitespace, and s has a token after whitespace, t begins with that token
 pub start_only : (s t : List ℕ) (e : Step) (r : List ℕ) → t ≡ after_run is_space s → Starts s e r → TakesToken t e r
-start_only s t e r j h = (stands_only (Piece e) s t r (piece_first e r) j h.0, h.1)
+start_only s t e r j h = (stands_only (Piece e) s t r (λ b. piece_no_space e b r) j h.0, h.1)
 
 -- ---- strings
 
@@ -164,28 +152,18 @@ pub string_taken : (cs t s r : List ℕ) → slice_index t 0 ≡ 34 → SpellsUp
     → s ≡ encode_utf8_all cs → TakesToken t (string s) r
 string_taken cs t s r at h e = (string_leads cs t s r at h e, tt)
 
-no_quote : (b t r : List ℕ) (k : ℕ) → Head b k → (k ≡ 4 → ⊥) → slice_index t 0 ≡ 34 → t ≡ b ++ r → ⊥
-no_quote b t r k h away at j =
-    let first : h.byte ≡ 34 = sym (ap (λ x. slice_index x 0) (j ∙ ap (λ x. x ++ r) h.is)) ∙ at in
-    away (sym h.of_kind ∙ ap leading_kind first)
-
-no_byte : (b t r : List ℕ) (c : ℕ) → b ≡ c ∷ [] → (c ≡ 34 → ⊥) → slice_index t 0 ≡ 34 → t ≡ b ++ r → ⊥
-no_byte b t r c h away at j = away (sym (ap (λ x. slice_index x 0) (j ∙ ap (λ x. x ++ r) h)) ∙ at)
+-- a token that begins with a quote is of the class of strings, 4
+quote_class : (t : List ℕ) (e : Step) (r : List ℕ) → slice_index t 0 ≡ 34 → BeginsWith (Piece e) t r → class e ≡ 4
+quote_class t e r at (b, h, j) =
+    let head = piece_head e b h in
+    let first : head.byte ≡ 34 = sym (ap (λ x. slice_index x 0) (j ∙ ap (λ x. x ++ r) head.is)) ∙ at in
+    sym head.of_kind ∙ ap leading_kind first
 
 -- if t begins with a quote, and no characters up to a quote follow it, t begins with no token
 pub string_refused : (t : List ℕ) → slice_index t 0 ≡ 34 → ((cs r : List ℕ) → SpellsUpToQuote cs (drop 1 t) r → ⊥)
     → (e : Step) (r : List ℕ) → TakesToken t e r → ⊥
-string_refused t at never step.null r ((b, h, j), k) = no_quote b t r 0 (value_head null b h) (λ n. omega arith) at j
-string_refused t at never (boolean x) r ((b, h, j), k) = no_quote b t r 1 (value_head (truth x) b h) (λ n. omega arith) at j
-string_refused t at never (negative n) r ((b, h, j), k) = no_quote b t r 3 (value_head (neg n) b h) (λ n. omega arith) at j
-string_refused t at never (nonnegative n) r ((b, h, j), k) = no_quote b t r 3 (value_head (nonneg n) b h) (λ n. omega arith) at j
-string_refused t at never (float x) r ((b, h, j), k) = no_quote b t r 3 (value_head (num x) b h) (λ n. omega arith) at j
 string_refused t at never (string s) r ((b, h, j), k) = never h.characters r (string_chars b s t r h j)
-string_refused t at never seq r ((b, h, j), k) = no_byte b t r 91 h (λ n. omega arith) at j
-string_refused t at never map r ((b, h, j), k) = no_byte b t r 123 h (λ n. omega arith) at j
-string_refused t at never element r ((b, h, j), k) = h
-string_refused t at never (key s) r ((b, h, j), k) = h
-string_refused t at never finish r ((b, h, j), k) = h
+string_refused t at never e r (h, k) = let same : class e ≡ 4 = quote_class t e r at h in omega arith
 
 -- ---- an answer without a string
 

@@ -1,6 +1,6 @@
 //! Writes texts as JSON strings by the escape rule: each byte below 0x20, quote and backslash is escaped in its
 //! shortest form, and every other byte stands for itself. A plain byte is one that is not escaped.
-ghost use Rattle.std.specs.Prelude.{◌≡◌, ◌≢◌, ℕ, ◌+◌, ◌/◌, ◌%◌, ◌^◌, ◌<◌, ◌≤◌, [], ◌∷◌, ◌++◌, length, true, false};
+ghost use Rattle.std.specs.Prelude.{◌≡◌, ◌≢◌, ◌+◌, ◌/◌, ◌%◌, ◌^◌, ◌<◌, ◌≤◌, [], ◌∷◌, ◌++◌, length, true};
 ghost use Rattle.std.specs.Prelude.{codes, if◌then◌else◌, ◌-◌, take, drop, slice_index, OnOk, OnErr, IfSome, IfNone, IsErrOf, string_bytes, string_len};
 ghost use Rattle.std.specs.Prelude.{string_capacity};
 ghost use Rattle.std.specs.Char.{digit_char, encode_utf8};
@@ -9,7 +9,7 @@ ghost use Rattle.miniserde_model.specs.Bytes as bytes;
 ghost use Rattle.miniserde_model.specs.Compact.{string_text};
 ghost use Rattle.miniserde_model.specs.declared.error.Error.TheVariants.{Memory};
 ghost use Rattle.miniserde_text.specs.Texts.{Extends, MakesRoom};
-ghost use Rattle.miniserde_text.specs.private.Escape.{escape, escapes};
+ghost use Rattle.miniserde_text.specs.private.Escape.{escape, escapes, IsPlainRun};
 
 mod plain;
 
@@ -25,7 +25,7 @@ fn run_end(text: &[u8], from: usize) -> usize
     requires { from ≤ length text.now }
     ensures low { from ≤ result }
     ensures high { result ≤ length text.now }
-    ensures plain { (k : ℕ) → from ≤ k → k < result → bytes.is_special (slice_index text.now k) ≡ false }
+    ensures plain { IsPlainRun text.now from result }
     ensures found { result < length text.now → bytes.is_special (slice_index text.now result) ≡ true }
 {
     special(text, from)

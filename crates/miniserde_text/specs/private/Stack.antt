@@ -1,5 +1,5 @@
 -- The kinds of the open containers, innermost first, and the words whose bits hold them.
-use Rattle.std.specs.Prelude.{ℕ, zero, suc, ◌/◌, ◌%◌, List, [], ◌∷◌, get_or, Option, Some, None}
+use Rattle.std.specs.Prelude.{◌≡◌, ◌≢◌, ℕ, zero, suc, ◌<◌, ◌/◌, ◌%◌, List, [], ◌∷◌, get_or, Option, Some, None}
 use Rattle.std.specs.Int.{bit_at}
 use Rattle.miniserde_model.specs.declared.kind.Kind.{Kind}
 use Rattle.miniserde_model.specs.declared.kind.Kind.TheVariants.{Seq, Map}
@@ -24,6 +24,11 @@ kind_at ws n = kind_by (bit_at (get_or ws (n / 64) 0) (n % 64))
 abbrev pub stack_of : List ℕ → ℕ → List Kind
 stack_of ws zero = []
 stack_of ws (suc n) = kind_at ws n ∷ stack_of ws n
+
+-- the word w is the word x with its bit i set to that of the kind, and the other bits of the 64 unchanged
+pub record SetsBit (x i : ℕ) (k : Kind) (w : ℕ) : Type 0 where
+  pub here : bit_at w i ≡ bit_of k
+  pub others : (j : ℕ) → j < 64 → j ≢ i → bit_at w j ≡ bit_at x j
 
 -- the kinds of the open containers after a container of the kind opens inside those of kinds st; without a kind, st
 abbrev pub with_opened : Option Kind → List Kind → List Kind

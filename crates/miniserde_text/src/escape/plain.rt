@@ -3,6 +3,7 @@
 ghost use Rattle.std.specs.Prelude.{◌≡◌, ℕ, ◌+◌, ◌<◌, ◌≤◌, length, map, slice_index, true, false};
 ghost use Rattle.std.specs.Simd.Lanes.{mask_l};
 ghost use Rattle.miniserde_model.specs.Bytes.{is_special};
+ghost use Rattle.miniserde_text.specs.private.Escape.{IsPlainRun};
 
 use crate::scan::{is_special, specials_of_eight, specials_of_sixteen};
 use std::simd::prelude::*;
@@ -22,7 +23,7 @@ fn specials_of_four(v: u8x4) -> u64
 #[inline(always)]
 fn sixteen_are_plain(bytes: &[u8], at: usize) -> bool
     requires { at + 16 ≤ length bytes.now }
-    ensures { result ≡ true → (k : ℕ) → at ≤ k → k < at + 16 → is_special (slice_index bytes.now k) ≡ false }
+    ensures { result ≡ true → IsPlainRun bytes.now at (at + 16) }
 {
     let found = specials_of_sixteen(u8x16::from_slice(&bytes[at..]));
     found == 0
@@ -32,7 +33,7 @@ fn sixteen_are_plain(bytes: &[u8], at: usize) -> bool
 #[inline(always)]
 fn eight_are_plain(bytes: &[u8], at: usize) -> bool
     requires { at + 8 ≤ length bytes.now }
-    ensures { result ≡ true → (k : ℕ) → at ≤ k → k < at + 8 → is_special (slice_index bytes.now k) ≡ false }
+    ensures { result ≡ true → IsPlainRun bytes.now at (at + 8) }
 {
     let found = specials_of_eight(u8x8::from_slice(&bytes[at..]));
     found == 0
@@ -42,7 +43,7 @@ fn eight_are_plain(bytes: &[u8], at: usize) -> bool
 #[inline(always)]
 fn four_are_plain(bytes: &[u8], at: usize) -> bool
     requires { at + 4 ≤ length bytes.now }
-    ensures { result ≡ true → (k : ℕ) → at ≤ k → k < at + 4 → is_special (slice_index bytes.now k) ≡ false }
+    ensures { result ≡ true → IsPlainRun bytes.now at (at + 4) }
 {
     let found = specials_of_four(u8x4::from_slice(&bytes[at..]));
     found == 0

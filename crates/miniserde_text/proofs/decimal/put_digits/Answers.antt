@@ -1,5 +1,5 @@
 -- The text that is pushed has the digits and zeros behind them, and the cut leaves the digits.
-use Rattle.std.proofs.Common.{◌≡◌, ◌+◌, ◌-◌, ◌≤◌, Ok, arith, decimal, length, rules, string_bytes}
+use Rattle.std.proofs.Common.{◌≡◌, ◌+◌, ◌-◌, Ok, arith, decimal, rules, string_bytes}
 use Rattle.std.proofs.lemmas.Fmt.{length-decimal-le}
 use Rattle.miniserde_text.proofs.Decimals.{copied_utf8, cut_behind}
 use Rattle.miniserde_text.proofs.decimal.put_digits.Goals as goal
@@ -15,7 +15,6 @@ returns-clause-bytes c =
     let w = c.write_digits-start in
     let whole : c.push_str.result ≡ Ok c.unwrap.result = c.unwrap.ensures in
     let pushed = rw whole at c.push_str.ensures in
-    let few : length (decimal c.args.n) ≤ w.result + 20 - w.result = omega (arith, w.ensures.start) in
-    cut_behind c.args.n (w.result + 20 - w.result) _ (string_bytes c.args.out.now) _ _ _ _ w.ensures.written few
-    (omega (arith, w.ensures.start)) (rw c.from_utf8_unchecked-copied.ensures at pushed.bytes)
-    c.truncate.ensures.bytes
+    rw (c.truncate.ensures.bytes, pushed.bytes, c.from_utf8_unchecked-copied.ensures, w.ensures.written)
+    (cut_behind (string_bytes c.args.out.now) (decimal c.args.n) _ (w.result + 20 - w.result) _
+    (omega (arith, w.ensures.start)) (omega (arith, w.ensures.start)))

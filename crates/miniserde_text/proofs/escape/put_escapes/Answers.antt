@@ -4,7 +4,6 @@ use Rattle.std.proofs.Common.{◌≡◌, ℕ, ◌+◌, ◌-◌, ◌<◌, ◌≤�
 use Rattle.std.proofs.Common.{ap, sym, append-nil, append_assoc, length-append, length-drop, refl, string_bytes}
 use Rattle.std.proofs.lemmas.Str.{IsCharBoundary-after_ascii, IsCharBoundary-end, IsCharBoundary-start}
 use Rattle.std.proofs.lemmas.List.{length-take}
-use Rattle.miniserde_model.specs.Bytes.{is_special}
 use Rattle.miniserde_text.specs.private.Escape.{escape, escapes}
 use Rattle.miniserde_text.proofs.EscapeRule.{
   escapes-nil,
@@ -25,12 +24,6 @@ loop-start-init c = record {
   capacity = omega arith;
 }
 
--- the run before the next byte to escape, in the text
-run_of : (bs v : List ℕ) (i j : ℕ) → bs ≡ v → i ≤ j → j ≤ length bs
-    → ((k : ℕ) → i ≤ k → k < j → is_special (get_or bs k 0) ≡ false) → escapes (take j v) ≡ escapes (take i v)
-    ++ take (j - i) (drop i v)
-run_of bs v i j e l h p = rw (← e) (escapes_run bs i j l h p)
-
 run_len : (v : List ℕ) (i j : ℕ) → i ≤ j → j ≤ length v → escapes (take j v) ≡ escapes (take i v)
     ++ take (j - i) (drop i v) → length (escapes (take j v)) ≡ length (escapes (take i v)) + (j - i)
 run_len v i j l h r = omega (
@@ -41,19 +34,18 @@ run_len v i j l h r = omega (
   length-drop i v,
 )
 
--- what the push of a run leaves
-pushed : (now old next v : List ℕ) (i j : ℕ) → next ≡ now ++ take (j - i) (drop i v)
-    → now ≡ old ++ escapes (take i v) → escapes (take j v) ≡ escapes (take i v) ++ take (j - i) (drop i v)
-    → next ≡ old ++ escapes (take j v)
-pushed now old next v i j n e r = rw (n, e, r) (append_assoc old (escapes (take i v)) (take (j - i) (drop i v)))
+-- b appended to old and a is c appended to old, if c is a and b
+pushed : {now next c : List ℕ} (old a b : List ℕ) → next ≡ now ++ b → now ≡ old ++ a → c ≡ a ++ b → next ≡ old ++ c
+pushed old a b n e r = n ∙ ap (λ x. x ++ b) e ∙ append_assoc old a b ∙ ap (λ x. old ++ x) (sym r)
 
 pub put_run-requires-clause-room : goal.put_run-requires-clause-room
 put_run-requires-clause-room c =
     let v = c.args.value.now in
     let at = c.run_end-at.result in
     let s = c.run_end-at.ensures in
-    let run = run_of _ v c.loop-start.start at c.as_bytes-text.ensures.value s.low s.high s.plain in
-    let len = run_len v c.loop-start.start at s.low (rw c.as_bytes-text.ensures.value at s.high) run in
+    let e : c.as_bytes-text.result.now ≡ v = c.as_bytes-text.ensures.value in
+    let run = rw e at (escapes_run c.as_bytes-text.result.now c.loop-start.start at s.low s.high s.plain) in
+    let len = run_len v c.loop-start.start at s.low (rw e at s.high) run in
     omega (arith, len, length_escapes_le v at, c.loop-start.invariant.len, c.loop-start.invariant.capacity, c.requires)
 
 pub put_escape-requires-clause-room : goal.put_escape-requires-clause-room
@@ -63,7 +55,7 @@ put_escape-requires-clause-room c =
     let e : c.as_bytes-text.result.now ≡ v = c.as_bytes-text.ensures.value in
     let s = c.run_end-at.ensures in
     let inv = c.loop-start.invariant in
-    let run = run_of _ v c.loop-start.start at e s.low s.high s.plain in
+    let run = rw e at (escapes_run c.as_bytes-text.result.now c.loop-start.start at s.low s.high s.plain) in
     let put = c.put_run.ensures in
     let len = run_len v c.loop-start.start at s.low (rw e at s.high) run in
     let here : at < length v = rw e at c.if-at-text.true in
@@ -79,12 +71,12 @@ loop-start-preserved-then-at-text c =
     let e : c.as_bytes-text.result.now ≡ v = c.as_bytes-text.ensures.value in
     let s = c.run_end-at.ensures in
     let inv = c.loop-start.invariant in
-    let run = run_of _ v c.loop-start.start at e s.low s.high s.plain in
+    let run = rw e at (escapes_run c.as_bytes-text.result.now c.loop-start.start at s.low s.high s.plain) in
     let put = c.put_run.ensures in
     let here : at < length v = rw e at c.if-at-text.true in
     let low : get_or v at 0 < 128 = is_special_ascii _ (rw e at (s.found c.if-at-text.true)) in
     let len = run_len v c.loop-start.start at s.low (rw e at s.high) run in
-    let text = pushed _ _ _ v _ _ put.bytes inv.bytes run in
+    let text = pushed (string_bytes c.args.out.now) (escapes (take c.loop-start.start v)) _ put.bytes inv.bytes run in
     let byte = rw e at c.put_escape.ensures in
     record {
       within = omega arith;
@@ -102,14 +94,14 @@ loop-start-preserved c =
     let e : c.as_bytes-text.result.now ≡ v = c.as_bytes-text.ensures.value in
     let s = c.run_end-at.ensures in
     let inv = c.loop-start.invariant in
-    let run = run_of _ v c.loop-start.start at e s.low s.high s.plain in
+    let run = rw e at (escapes_run c.as_bytes-text.result.now c.loop-start.start at s.low s.high s.plain) in
     let put = c.put_run.ensures in
     let end : at ≡ length v = omega (arith, rw e at c.if-at-text.false, rw e at s.high) in
     let len = run_len v c.loop-start.start at s.low (rw e at s.high) run in
     record {
       within = omega arith;
       cut = rw end (IsCharBoundary-end v);
-      bytes = pushed _ _ _ v _ _ put.bytes inv.bytes run;
+      bytes = pushed (string_bytes c.args.out.now) (escapes (take c.loop-start.start v)) _ put.bytes inv.bytes run;
       len = omega (arith, len, inv.len, put.len);
       capacity = omega (arith, inv.capacity, put.capacity);
     }

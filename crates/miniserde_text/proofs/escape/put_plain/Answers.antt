@@ -1,5 +1,5 @@
 -- As in `put_other`, with a text that is its own escapes.
-use Rattle.std.proofs.Common.{◌≡◌, ◌+◌, ◌<◌, Ok, ap, arith, length, rules, string_capacity, string_len}
+use Rattle.std.proofs.Common.{◌≡◌, ◌+◌, ◌<◌, [], ◌∷◌, ◌++◌, Ok, ap, ap₂, sym, ◌∙◌, arith, length, rules, string_capacity, string_len}
 use Rattle.miniserde_model.specs.Compact.{string_text}
 use Rattle.miniserde_text.proofs.EscapeRule.{between_quotes, length_quoted}
 use Rattle.miniserde_text.proofs.escape.put_plain.Goals as goal
@@ -12,8 +12,10 @@ returns c =
     let opened = rw first at c.push_str.ensures in
     let pushed = rw text at c.push_str-2.ensures in
     let closed = rw last at c.push_str-3.ensures in
-    let whole = between_quotes _ _ _ _ _ c.args.value.now c.in_ok-reserve.ensures.bytes opened.bytes
-    (rw c.requires.plain pushed.bytes) closed.bytes in
+    let v = c.args.value.now in
+    let front = rw c.in_ok-reserve.ensures.bytes at opened.bytes in
+    let inside = pushed.bytes ∙ ap₂ (λ x y. x ++ y) front (sym c.requires.plain) in
+    let whole = closed.bytes ∙ ap (λ x. x ++ 34 ∷ []) inside ∙ between_quotes _ v in
     search (rules, whole)
 
 pub returns-in_err-reserve : goal.returns-in_err-reserve

@@ -1,6 +1,6 @@
 -- The word that `with_kind` returns adds the kind to the stack (`stack_opened`). A word of zeros that was pushed
 -- before leaves the stack unchanged (`stack_grown`).
-use Rattle.std.proofs.Common.{◌≡◌, ◌+◌, ◌/◌, ◌<◌, length, rules, refl, ap, ◌∙◌}
+use Rattle.std.proofs.Common.{◌≡◌, ◌+◌, ◌/◌, ◌<◌, ◌∷◌, length, rules, refl, ap, ◌∙◌}
 use Rattle.miniserde_text.specs.private.Stack.{stack_of}
 use Rattle.miniserde_text.proofs.Stacks.{stack_opened, stack_grown}
 use Rattle.miniserde_text.proofs.stack.Stack.push.Goals as goal
@@ -17,6 +17,6 @@ returns-after-place-len-clause-ok c =
           ∙ stack_grown c.self.inside.bits.items c.self.inside.levels)
       | else-place-len w ↦ rw (w.self-inside-is) refl
     ] in
-    rw (c.in-Some.is) (stack_opened c.if-place-len.self-inside.1.0.items c.self.inside.levels c.in_ok-levels.levels
-    c.index.result.now c.with_kind.result c.in-Some.kind c.args.self.now next within c.index.ensures
-    c.with_kind.ensures.here c.with_kind.ensures.others (stays ∙ c.self.view_is))
+    let opened = stack_opened c.if-place-len.self-inside.1.0.items c.self.inside.levels c.index.result.now within
+    c.index.ensures c.with_kind.ensures in
+    rw (c.in-Some.is, next) (opened ∙ ap (λ st. c.in-Some.kind ∷ st) (stays ∙ c.self.view_is))

@@ -1,12 +1,13 @@
 -- The text at the index that `after_space` returns is the rest without its whitespace. From there, `follows` turns
--- the result of `take_punctuation` into `Follows`, and `follows_refused` says that after `None` nothing follows. What
+-- the result of `take_punctuation` into `Follows`, and `follows_only` says that after `None` nothing follows. What
 -- follows has a byte, so there was no error (`unrefused`).
 use Rattle.std.proofs.Common.{◌≡◌, None, Some, drop, sym, subst, arith}
 use Rattle.miniserde_model.specs.Bytes.{is_space}
 use Rattle.miniserde_model.specs.Lexing.{Follows}
 use Rattle.miniserde_text.specs.Lexer.{is_close}
 use Rattle.miniserde_text.specs.private.Reading.{after_run, punctuation_at}
-use Rattle.miniserde_text.proofs.Steps.{follows, follows_refused}
+use Rattle.miniserde_text.proofs.Options.{none_is_some}
+use Rattle.miniserde_text.proofs.Steps.{follows, follows_only}
 use Rattle.miniserde_text.proofs.NothingLeft.{follows_some, unrefused, if_unrefused, no_error}
 use Rattle.miniserde_text.proofs.json.lex.Lexer.after.Goals as goal
 
@@ -19,7 +20,7 @@ taken c =
     let from : t ≡ after_run is_space (drop c.self.inside.at c.self.inside.text.now) = grind arith in
     let read : punctuation_at c.args.kind c.args.first t
     ≡ Some (is_close c.in-Some.answer, drop c.in-Some.end c.self.inside.text.now) = grind arith in
-    follows _ c.args.first _ t _ _ from read
+    follows _ c.args.first _ t _ from read
 
 -- there was no error
 fresh : (c : goal.After-self-1) → c.self.inside.refused ≡ None
@@ -51,4 +52,4 @@ returns-in-None-clause-invalid c is none a r h =
     let t = drop c.after_space-at.result.0 c.self.inside.text.now in
     let from : t ≡ after_run is_space c.args.self.now.rest = grind arith in
     let read : punctuation_at c.args.kind c.args.first t ≡ None = grind arith in
-    follows_refused _ c.args.first _ t from read a r h
+    none_is_some _ (a, r) read (follows_only _ c.args.first _ t (a, r) from h)

@@ -1,6 +1,6 @@
 -- The run at the front passes its characters. A quote ends the string there. Where a backslash stands, the characters
 -- of `take_decoded` are joined to them.
-use Rattle.std.proofs.Common.{◌≡◌, ◌++◌, ℕ, List, Err, drop, slice_index, refl, sym, ap, subst, ◌∙◌, arith}
+use Rattle.std.proofs.Common.{◌≡◌, ◌∷◌, ◌++◌, ℕ, List, Err, drop, slice_index, refl, sym, ap, subst, ◌∙◌, arith}
 use Rattle.std.specs.Str.{encode_utf8_all, IsUtf8, IsCharBoundary}
 use Rattle.std.proofs.lemmas.Result.{err_from_is_err_and}
 use Rattle.std.proofs.lemmas.Str.{encodes-append, IsUtf8-drop}
@@ -8,7 +8,7 @@ use Rattle.miniserde_model.specs.declared.error.Error.TheVariants.{Invalid}
 use Rattle.miniserde_text.specs.private.Reading.{after_run, before, is_unescaped, FollowsAscii}
 use Rattle.miniserde_text.specs.private.LexerParts.{SpellsUpToQuote, PassesCharacters}
 use Rattle.miniserde_text.proofs.Indices.{follows_boundary}
-use Rattle.miniserde_text.proofs.Strings.{run_of, run_special, quote_ends, no_chars, join_chars, run_refused}
+use Rattle.miniserde_text.proofs.Strings.{run_of, run_special, quote_ends, no_chars, run_refused}
 use Rattle.miniserde_text.proofs.Strings.{run_inside, escaped_inside, reaches_backslash}
 use Rattle.miniserde_text.proofs.json.lex.string.take_string.Goals as goal
 
@@ -39,8 +39,7 @@ returns-in_ok-end-in-92-clause-ok g c =
     let p = run text c.args.at tail.result c.utf8.text c.requires tail.ensures.value tail.ensures.boundary in
     let q = c.in_ok-end-in-92.ensures.ok in (
       p.0 ++ q.0,
-      join_chars p.0 q.0 (drop c.args.at text) (drop tail.result text) (drop c.in_ok-end-in-92.end text)
-          p.1 q.1,
+      p.1.on q.0 (drop c.in_ok-end-in-92.end text) q.1,
       refl,
       q.2 ∙ ap g.S.Spelling.spelled (ap (λ x. x ++ encode_utf8_all q.0) p.2 ∙ sym (encodes-append p.0 q.0)),
     )
@@ -52,7 +51,7 @@ returns-in_err-end-in-92-clause-invalid g c is cs r h =
     let p = run text c.args.at tail.result c.utf8.text c.requires tail.ensures.value tail.ensures.boundary in
     let q = err_from_is_err_and c.from_residual.result c.from_residual.ensures.1 in
     let e : c.in_err-end-in-92.field-0.0 ≡ Invalid = cc (q.1, q.2) in
-    run_refused p.0 (drop c.args.at text) (drop tail.result text) p.1 (c.in_err-end-in-92.ensures.invalid (ap Err e)) cs r h
+    run_refused p.1 (c.in_err-end-in-92.ensures.invalid (ap Err e)) cs r h
 
 pub returns-in_default-clause-invalid : goal.returns-in_default-clause-invalid
 returns-in_default-clause-invalid g c is cs r h =
@@ -61,7 +60,7 @@ returns-in_default-clause-invalid g c is cs r h =
     let tail = c.after_unescaped_in_lanes-tail in
     let t = drop tail.result text in
     let p = run text c.args.at tail.result c.utf8.text c.requires tail.ensures.value tail.ensures.boundary in
-    run_refused p.0 s t p.1 (no_chars t (run_special s t tail.ensures.value) (λ e. grind arith) (λ e. grind arith)) cs r h
+    run_refused p.1 (no_chars t (run_special s t tail.ensures.value) (λ e. grind arith) (λ e. grind arith)) cs r h
 
 pub returns-in-34-clause-text : goal.returns-in-34-clause-text
 returns-in-34-clause-text g c =
@@ -69,9 +68,9 @@ returns-in-34-clause-text g c =
     let t = drop c.after_unescaped_in_lanes-tail.result text in
     let at : slice_index t 0 ≡ 34 = grind arith in
     let next : drop c.index_after.result text ≡ drop 1 t = grind arith in
-    let q = run_inside (drop c.args.at text) t c.text_between.result.now (drop c.index_after.result text)
-    c.after_unescaped_in_lanes-tail.ensures.value at c.text_between.ensures next in
-    (q.0, q.1, (q.2, q.3))
+    let s = drop c.args.at text in
+    let q = run_inside s t c.after_unescaped_in_lanes-tail.ensures.value at in
+    (before s t, q.0 ∙ ap (λ r. before s t ++ 34 ∷ r) (sym next), (sym c.text_between.ensures, q.1))
 
 pub returns-in_ok-end-in-92-clause-text : goal.returns-in_ok-end-in-92-clause-text
 returns-in_ok-end-in-92-clause-text g c =

@@ -9,8 +9,9 @@ use Rattle.miniserde_text.specs.Lexer.{BorrowedIfPlain}
 use Rattle.miniserde_model.specs.Bytes.{is_space}
 use Rattle.miniserde_text.specs.private.Reading.{after_run}
 use Rattle.miniserde_text.specs.private.LexerParts.{SpellsUpToQuote, ReachesBackslash}
+use Rattle.miniserde_text.proofs.Strings.{string_leads}
 use Rattle.miniserde_text.proofs.Tokens.{string_text}
-use Rattle.miniserde_text.proofs.Names.{colon_leads, name_taken, name_quote, no_string-no_name, no_colon-no_name}
+use Rattle.miniserde_text.proofs.Names.{colon_leads, colon_of, colon_only, colon_behind, name_quote, no_string-no_name}
 use Rattle.miniserde_text.proofs.json.lex.token.take_name.Goals as goal
 
 pub returns-then-first-ne34-clause-invalid : goal.returns-then-first-ne34-clause-invalid
@@ -39,41 +40,38 @@ pub returns-then-byte-ne58-clause-invalid : goal.returns-then-byte-ne58-clause-i
 returns-then-byte-ne58-clause-invalid g c is n r h =
     let s = drop c.args.at c.args.text.now in
     let next : drop c.index_after.result c.args.text.now ≡ drop 1 s = grind arith in
-    let space : drop c.after_space-colon.result.0 c.args.text.now ≡ after_run is_space
-    (drop c.in_ok-name.end c.args.text.now) = grind arith in
+    let rest = drop c.in_ok-name.end c.args.text.now in
+    let space : drop c.after_space-colon.result.0 c.args.text.now ≡ after_run is_space rest = grind arith in
     let q = c.in_ok-name.ensures.ok in
     let at : slice_index s 0 ≡ 34 = grind arith in
     let away : slice_index (drop c.after_space-colon.result.0 c.args.text.now) 0 ≢ 58 = λ e. grind arith in
-    no_colon-no_name s n r q.0 (drop c.in_ok-name.end c.args.text.now) (drop c.after_space-colon.result.0 c.args.text.now)
-    at h (subst (λ x. SpellsUpToQuote q.0 x (drop c.in_ok-name.end c.args.text.now)) next q.1) space away
+    let string = string_leads q.0 s _ rest at (subst (λ x. SpellsUpToQuote q.0 x rest) next q.1) q.2 in
+    away (colon_only rest _ r space (colon_behind s n r _ rest h string))
 
 pub returns-clause-ok : goal.returns-clause-ok
 returns-clause-ok g c =
     let s = drop c.args.at c.args.text.now in
     let next : drop c.index_after.result c.args.text.now ≡ drop 1 s = grind arith in
-    let space : drop c.after_space-colon.result.0 c.args.text.now ≡ after_run is_space
-    (drop c.in_ok-name.end c.args.text.now) = grind arith in
+    let rest = drop c.in_ok-name.end c.args.text.now in
+    let space : drop c.after_space-colon.result.0 c.args.text.now ≡ after_run is_space rest = grind arith in
     let last : drop c.index_after-2.result c.args.text.now ≡ drop 1 (drop c.after_space-colon.result.0 c.args.text.now) = grind arith in
     let q = c.in_ok-name.ensures.ok in
     let at : slice_index s 0 ≡ 34 = grind arith in
     let colon : slice_index (drop c.after_space-colon.result.0 c.args.text.now) 0 ≡ 58 = grind arith in
-    let chars = subst (λ x. SpellsUpToQuote q.0 x (drop c.in_ok-name.end c.args.text.now)) next q.1 in
-    let taken = name_taken s _ (drop c.in_ok-name.end c.args.text.now) (drop c.after_space-colon.result.0 c.args.text.now)
-    (drop c.index_after-2.result c.args.text.now) q.0 at chars q.2 space colon last in
+    let chars = subst (λ x. SpellsUpToQuote q.0 x rest) next q.1 in
+    let taken = colon_leads _ s rest _ (string_leads q.0 s _ rest at chars q.2) (colon_of rest _ _ space colon last) in
     (encode_utf8_all q.0, taken, q.3)
 
 pub returns-clause-text : goal.returns-clause-text
 returns-clause-text g c =
     let s = drop c.args.at c.args.text.now in
     let next : drop c.index_after.result c.args.text.now ≡ drop 1 s = grind arith in
-    let space : drop c.after_space-colon.result.0 c.args.text.now ≡ after_run is_space
-    (drop c.in_ok-name.end c.args.text.now) = grind arith in
+    let rest = drop c.in_ok-name.end c.args.text.now in
+    let space : drop c.after_space-colon.result.0 c.args.text.now ≡ after_run is_space rest = grind arith in
     let last : drop c.index_after-2.result c.args.text.now ≡ drop 1 (drop c.after_space-colon.result.0 c.args.text.now) = grind arith in
     let at : slice_index s 0 ≡ 34 = grind arith in
     let colon : slice_index (drop c.after_space-colon.result.0 c.args.text.now) 0 ≡ 58 = grind arith in
     let text = c.in_ok-name.name in
-    let rest = (drop c.in_ok-name.end c.args.text.now) in
-    colon_leads (Between 34 (BorrowedIfPlain text) 34) s rest (drop c.after_space-colon.result.0 c.args.text.now)
-    (drop c.index_after-2.result c.args.text.now)
+    colon_leads (Between 34 (BorrowedIfPlain text) 34) s rest _
     (string_text text s (drop c.index_after.result c.args.text.now) rest at next c.in_ok-name.ensures.text)
-    space colon last
+    (colon_of rest _ _ space colon last)
