@@ -44,4 +44,4 @@ if_unrefused o P h = subst (λ x. IfSome x P) (sym h) tt
 -- a call that returns `Ok` keeps the first error if there was none before, and none is there afterwards
 pub no_error : {A : Type 0} (before after : Option Error) (a : A) → before ≡ None → after ≡ None
     → KeepsFirstError before (Ok a) after
-no_error before after a fresh none = record { again = if_unrefused before _ fresh; kept = none }
+no_error before after a fresh none = record { first = if_unrefused before _ fresh; kept = none }

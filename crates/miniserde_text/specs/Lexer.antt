@@ -24,7 +24,7 @@ pub record LexerView : Type 0 where
 -- What a call does with the first error. If one was kept before, the call returns it. The error that it returns is kept
 -- afterwards, and after `Ok` none is.
 pub record KeepsFirstError {A : Type 0} (before : Option Error) (answer : Result A Error) (after : Option Error) : Type 0 where
-  pub again : IfSome before (λ e. answer ≡ Err e)
+  pub first : IfSome before (λ e. answer ≡ Err e)
   pub kept : after ≡ result_err answer
 
 -- the text of a string or of a name: the borrowed one, or else the scratch text
