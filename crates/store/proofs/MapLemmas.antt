@@ -198,5 +198,5 @@ module _ (old new : State) (m : Map) (sees : SeesMap old m) where
     answered_map request response (inr (inl (is, lists))) =
         let it = answered_list request response lists in
         (it.0, inr (inl (is, it.1)), it.2)
-    answered_map request response (inr (inr (none, no_list, kept, sent))) =
+    answered_map request response (inr (inr (none, no_list, (kept, sent)))) =
         (m, inr (inr (none, no_list, refl, sent)), kept_sees kept)

@@ -72,13 +72,13 @@ abbrev pub codec : {V : Type 0} → Meaning V → (V → Tree) → Codec V
 codec means tree = record { means = means; tree = tree }
 
 -- what a call leads to: from the state before, by its response, to the state after
-pub record Outcome (S : Type 0) : Type 0 where
+pub record Outcome {ℓ} (S : Type ℓ) : Type ℓ where
   pub old : S
   pub response : Response
   pub new : S
 
 -- the outcome whose fields are the arguments
-abbrev pub outcome : {S : Type 0} → S → Response → S → Outcome S
+abbrev pub outcome {ℓ} : {S : Type ℓ} → S → Response → S → Outcome S
 outcome old response new = record { old = old; response = response; new = new }
 
 -- the body means a value whose canonical text is this

@@ -29,7 +29,7 @@ IsBetween m s true = ServesMap s m
 IsBetween m s false = IsOff m s
 
 -- what a round is to the connection, and whether it stands
-pub record RoundState : Type 0 where
+pub record RoundState : Type 1 where
   pub connection : State
   pub stands : Bool
 

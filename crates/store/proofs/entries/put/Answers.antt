@@ -37,7 +37,7 @@ returns-in-Err g c =
     let old = state g.S.Store c.args.conn.now in
     let new = state g.S.Store c.get.new.conn in
     let rows = c.in-Err.ensures in
-    goes_by old new (Keeps old new) 
+    goes_by old new (Keeps old new)
     (Puts (codec g.V.FromJson.means g.V.Serialize.tree) (outcome old _ new) c.args.headers.now c.args.key.now c.args.body.now)
     (λ kept. inr (kept, record { status = refl; headers = c.requires.headers; body = c.requires.body }))
     (failed_keeps old new (record { clean = rows.clean; serving = rows.serving; kept = rows.kept; aborts = rows.aborts }))

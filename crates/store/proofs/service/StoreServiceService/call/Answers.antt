@@ -18,8 +18,7 @@ returns-in_default-clause-ok g c =
     stays s _ (inr (inr (
       λ key is. c.entry_key.ensures.none (c.in_ok-key.was ∙ ap Ok c.in_default.is) key (subst (λ p. IsEntry p key) (sym path) is),
       λ is. true≢false (sym (c.is_list.ensures.1 (first ∙ is)) ∙ c.if-is_list.false),
-      keeps_self s,
-      record { status = refl; headers = c.requires.headers; body = c.requires.body },
+      (keeps_self s, record { status = refl; headers = c.requires.headers; body = c.requires.body }),
     )))
 
 pub returns-then-is_list-clause-ok : goal.returns-then-is_list-clause-ok
