@@ -8,12 +8,10 @@ use Rattle.http_header.specs.FieldValue.{FieldValue}
 use Rattle.http_header.specs.HeaderMap.{Entries}
 use Rattle.http_server.specs.declared.response.Response.{Response}
 use Rattle.http_server.specs.Exchange.{Call, Chain}
-use Rattle.miniserde.specs.Tree.{Tree}
-use Rattle.miniserde.specs.Meaning.{Meaning}
 use Rattle.store.specs.declared.conditions.Condition.{Condition}
 use Rattle.store.specs.declared.conditions.Condition.TheVariants.{Met, Failed, Cached}
 use Rattle.store.specs.Routes.{IsEntry, path_of, headers_of}
-use Rattle.store.specs.Answered.{IsStatus, condition_on, ShownBy, Shows}
+use Rattle.store.specs.Answered.{Codec, outcome, IsStatus, condition_on, ShownBy, Shows}
 use Rattle.store.specs.Lists.{query_of, start_of, object_text}
 use Rattle.store.specs.Maps.{Map, empty, with_text, without_key, ListsFromMap, AnsweredListMap, AnsweredAtMap, AnsweredMap}
 use Rattle.store.specs.Last.{Changes, IsPutOf, IsRemovalOf, AreQuiet, LastIs, NoPutStands}
@@ -73,12 +71,12 @@ stored_success false r h = inl h.status
 one_key : (path key other : List ℕ) → IsEntry path key → IsEntry path other → key ≡ other
 one_key path key other a b = sym a.decoded ∙ b.decoded
 
-module _ {V : Type 0} (means : Meaning V) (tree : V → Tree) (key : List ℕ) where
+module _ {V : Type 0} (of : Codec V) (key : List ℕ) where
   -- what a call makes of the text of the key
   abbrev Step : Map → Call → Map → Type 0
   Step m c next =
       ((next key ≡ m key) × (Changes key c → ⊥))
-      ⊎ (((text : List ℕ) × (next key ≡ Some text) × IsPutOf means tree key text c) ⊎ ((next key ≡ None) × IsRemovalOf key c))
+      ⊎ (((text : List ℕ) × (next key ≡ Some text) × IsPutOf of key text c) ⊎ ((next key ≡ None) × IsRemovalOf key c))
 
   same_at : (m next : Map) → next ≡ m → next key ≡ m key
   same_at m next same = ap (λ (f : Map). f key) same
@@ -87,7 +85,7 @@ module _ {V : Type 0} (means : Meaning V) (tree : V → Tree) (key : List ℕ) w
   apart_by other e same = true≢false (sym ((bytes_eq-Decides key other).1 same) ∙ e)
 
   put_step : (m next : Map) (c : Call) (other text : List ℕ) (entry : IsEntry (path_of c.0) other) → next ≡ with_text m other text
-      → (IsEntry (path_of c.0) key → IsPutOf means tree key text c) → (v : Bool) → bytes_eq key other ≡ v → Step m c next
+      → (IsEntry (path_of c.0) key → IsPutOf of key text c) → (v : Bool) → bytes_eq key other ≡ v → Step m c next
   put_step m next c other text entry is put true e =
       let same : key ≡ other = (bytes_eq-Decides key other).0 e in
       inr (inl (
@@ -115,14 +113,14 @@ module _ {V : Type 0} (means : Meaning V) (tree : V → Tree) (key : List ℕ) w
         λ change. apart_by other e (one_key (path_of c.0) key other change.0 entry),
       )
 
-  at_step : (m next : Map) (c : Call) (other : List ℕ) → IsEntry (path_of c.0) other → AnsweredAtMap means tree m other c.0 c.1 next
-      → Step m c next
+  at_step : (m next : Map) (c : Call) (other : List ℕ) → IsEntry (path_of c.0) other
+      → AnsweredAtMap of other c.0 (outcome m c.1 next) → Step m c next
   at_step m next c other entry (inl (is, (same, inl shown))) =
       inl (same_at m next same, λ change. shown_quiet (headers_of c.0) (m other) c.1 shown change.1)
   at_step m next c other entry (inl (is, (same, inr failed))) =
       inl (same_at m next same, λ change. no_success 503 c.1 failed.status quiet_503 change.1)
-  at_step m next c other entry (inr (inl (is, inl (met, inl (text, of, put, status))))) =
-      put_step m next c other text entry put (λ there. (there, is, of, stored_success (is_some (m other)) c.1 status))
+  at_step m next c other entry (inr (inl (is, inl (met, inl (text, meant, put, status))))) =
+      put_step m next c other text entry put (λ there. (there, is, meant, stored_success (is_some (m other)) c.1 status))
       (bytes_eq key other) refl
   at_step m next c other entry (inr (inl (is, inl (met, inr (same, inl bad))))) =
       inl (same_at m next same, λ change. no_success 400 c.1 bad.1.2.status quiet_400 change.1)
@@ -143,13 +141,13 @@ module _ {V : Type 0} (means : Meaning V) (tree : V → Tree) (key : List ℕ) w
   at_step m next c other entry (inr (inr (inr (is, same, sent)))) =
       inl (same_at m next same, λ change. no_success 405 c.1 sent.status quiet_405 change.1)
 
-  from_step : (m next : Map) (c : Call) (start : List ℕ) (limit : ℕ) → ListsFromMap m (headers_of c.0) start limit c.1 next → Step m c next
+  from_step : (m next : Map) (c : Call) (start : List ℕ) (limit : ℕ) → ListsFromMap (outcome m c.1 next) (headers_of c.0) start limit → Step m c next
   from_step m next c start limit (same, inl (entries, page, shown)) =
       inl (same_at m next same, λ change. shown_quiet (headers_of c.0) (Some (object_text entries)) c.1 shown change.1)
   from_step m next c start limit (same, inr failed) =
       inl (same_at m next same, λ change. no_success 503 c.1 failed.status quiet_503 change.1)
 
-  list_step : (m next : Map) (c : Call) → AnsweredListMap m c.0 c.1 next → Step m c next
+  list_step : (m next : Map) (c : Call) → AnsweredListMap c.0 (outcome m c.1 next) → Step m c next
   list_step m next c (inl (is, inl (limit, asks, from))) = from_step m next c (start_of (query_of c.0)) limit from
   list_step m next c (inl (is, inr (same, inl bad))) =
       inl (same_at m next same, λ change. no_success 400 c.1 bad.1.status quiet_400 change.1)
@@ -158,7 +156,7 @@ module _ {V : Type 0} (means : Meaning V) (tree : V → Tree) (key : List ℕ) w
   list_step m next c (inr (other, same, sent)) =
       inl (same_at m next same, λ change. no_success 405 c.1 sent.status quiet_405 change.1)
 
-  one_step : (m next : Map) (c : Call) → AnsweredMap means tree m c.0 c.1 next → Step m c next
+  one_step : (m next : Map) (c : Call) → AnsweredMap of m c.0 c.1 next → Step m c next
   one_step m next c (inl (other, entry, answer)) = at_step m next c other entry answer
   one_step m next c (inr (inl (is, lists))) = list_step m next c lists
   one_step m next c (inr (inr (none, no_list, same, sent))) = inl (same_at m next same, λ change. none key change.0)
@@ -168,7 +166,7 @@ module _ {V : Type 0} (means : Meaning V) (tree : V → Tree) (key : List ℕ) w
   abbrev Stands : Map → List Call → Option (List ℕ) → Type 0
   Stands m calls o =
       ((o ≡ m key) × AreQuiet key calls)
-      ⊎ (((text : List ℕ) × (o ≡ Some text) × LastIs (IsPutOf means tree key text) key calls)
+      ⊎ (((text : List ℕ) × (o ≡ Some text) × LastIs (IsPutOf of key text) key calls)
       ⊎ ((o ≡ None) × LastIs (IsRemovalOf key) key calls))
 
   later_too : (P : Call → Type 0) (c : Call) (calls : List Call) → LastIs P key calls → LastIs P key (c ∷ calls)
@@ -176,30 +174,30 @@ module _ {V : Type 0} (means : Meaning V) (tree : V → Tree) (key : List ℕ) w
 
   joined : (m next : Map) (c : Call) (calls : List Call) (o : Option (List ℕ)) → Step m c next → Stands next calls o
       → Stands m (c ∷ calls) o
-  joined m next c calls o step (inr (inl (text, is, last))) = inr (inl (text, is, later_too (IsPutOf means tree key text) c calls last))
+  joined m next c calls o step (inr (inl (text, is, last))) = inr (inl (text, is, later_too (IsPutOf of key text) c calls last))
   joined m next c calls o step (inr (inr (is, last))) = inr (inr (is, later_too (IsRemovalOf key) c calls last))
   joined m next c calls o (inl (same, quiet)) (inl (is, all)) = inl (is ∙ same, (quiet, all))
   joined m next c calls o (inr (inl (text, there, put))) (inl (is, all)) = inr (inl (text, is ∙ there, ([], c, calls, refl, put, all)))
   joined m next c calls o (inr (inr (none, removal))) (inl (is, all)) = inr (inr (is ∙ none, ([], c, calls, refl, removal, all)))
 
-  stands : (calls : List Call) (m after : Map) → Chain (AnsweredMap means tree) m calls after → Stands m calls (after key)
+  stands : (calls : List Call) (m after : Map) → Chain (AnsweredMap of) m calls after → Stands m calls (after key)
   stands [] m after same = inl (same_at m after same, tt)
   stands (c ∷ calls) m after (next, step, later) =
       joined m next c calls (after key) (one_step m next c step) (stands calls next after later)
 
   shows : (calls : List Call) (o : Option (List ℕ)) → Stands empty calls o
-      → MatchOption o (NoPutStands key calls) (λ text. LastIs (IsPutOf means tree key text) key calls)
+      → MatchOption o (NoPutStands key calls) (λ text. LastIs (IsPutOf of key text) key calls)
   shows calls None (inl (is, quiet)) = inl quiet
   shows calls None (inr (inl (text, is, last))) = absurd (true≢false (sym (ap is_some is)))
   shows calls None (inr (inr (is, last))) = inr last
   shows calls (Some text) (inl (is, quiet)) = absurd (true≢false (ap is_some is))
   shows calls (Some text) (inr (inl (other, is, last))) =
-      subst (λ t. LastIs (IsPutOf means tree key t) key calls) (sym (one_text is)) last
+      subst (λ t. LastIs (IsPutOf of key t) key calls) (sym (one_text is)) last
     where
       one_text : {a b : List ℕ} → ◌≡◌ {A = Option (List ℕ)} (Some a) (Some b) → a ≡ b
       one_text e = cc
   shows calls (Some text) (inr (inr (is, last))) = absurd (true≢false (ap is_some is))
 
-  pub last_put_shown : (calls : List Call) (m : Map) → Chain (AnsweredMap means tree) empty calls m
-      → MatchOption (m key) (NoPutStands key calls) (λ text. LastIs (IsPutOf means tree key text) key calls)
+  pub last_put_shown : (calls : List Call) (m : Map) → Chain (AnsweredMap of) empty calls m
+      → MatchOption (m key) (NoPutStands key calls) (λ text. LastIs (IsPutOf of key text) key calls)
   last_put_shown calls m chain = shows calls (m key) (stands calls empty m chain)

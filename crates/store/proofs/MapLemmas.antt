@@ -8,14 +8,13 @@ use Rattle.http.specs.Request.{body_of}
 use Rattle.http_header.specs.FieldValue.{FieldValue}
 use Rattle.http_header.specs.HeaderMap.{Entries}
 use Rattle.http_server.specs.declared.response.Response.{Response}
-use Rattle.miniserde.specs.Tree.{Tree}
-use Rattle.miniserde.specs.Meaning.{Meaning}
 use Rattle.sqlite.specs.declared.types.Value.TheVariants.{Text}
 use Rattle.sqlite.specs.State.{State}
 use Rattle.rows.specs.Entries.{Holds, HasKey, IsPage, IsPut, IsRemoved, Keeps, key_of}
 use Rattle.store.specs.declared.conditions.Condition.TheVariants.{Met}
 use Rattle.store.specs.Routes.{headers_of}
-use Rattle.store.specs.Answered.{IsTextOf, MeansNoValue, IsProblem, IsStatus, IsCurrent, condition_on, Shows, Reads, PutsOver, Puts}
+use Rattle.store.specs.Answered.{Codec, outcome, IsTextOf, MeansNoValue, IsProblem, IsStatus, IsCurrent, condition_on, Shows, Reads}
+use Rattle.store.specs.Answered.{IfMet, PutsOver, Puts}
 use Rattle.store.specs.Answered.{RemovesOver, Removes, ListsFrom, Lists, AnsweredList, AnsweredAt, Answered}
 use Rattle.store.specs.Lists.{query_of, start_of}
 use Rattle.store.specs.Maps.{Map, with_text, without_key, IsPageOf, ReadsMap, PutsMap, RemovesMap, ListsFromMap, ListsMap}
@@ -32,8 +31,8 @@ abbrev pub Leads : State → (Map → Type 0) → Type 0
 Leads new Answer = (after : Map) × Answer after × SeesMap new after
 
 -- a list changes nothing
-pub list_same : (m after : Map) (request : HttpRequest (List ℕ)) (response : Response) → AnsweredListMap m request response after
-    → after ≡ m
+pub list_same : (m after : Map) (request : HttpRequest (List ℕ)) (response : Response)
+    → AnsweredListMap request (outcome m response after) → after ≡ m
 list_same m after request response (inl (is, inl (limit, asks, (same, shown)))) = same
 list_same m after request response (inl (is, inr (same, why))) = same
 list_same m after request response (inr (other, same, sent)) = same
@@ -92,7 +91,7 @@ module _ (old new : State) (m : Map) (sees : SeesMap old m) where
   current_at key (Some text) live held = some_at key text live held
 
   module _ (headers : Entries FieldValue) (key : List ℕ) (response : Response) where
-    pub reads_map : Reads old headers key response new → Leads new (ReadsMap m headers key response)
+    pub reads_map : Reads (outcome old response new) headers key → Leads new (λ after. ReadsMap (outcome m response after) headers key)
     reads_map (kept, inl (live, current, is, shown)) =
         (m, (refl, inl (subst (λ o. Shows headers o response) (sym (current_at key current live is)) shown)), kept_sees kept)
     reads_map (kept, inr failed) = (m, (refl, inr failed), kept_sees kept)
@@ -104,7 +103,7 @@ module _ (old new : State) (m : Map) (sees : SeesMap old m) where
         ⊎ ((after ≡ m) × (((o ≡ None) × IsStatus 404 response)
         ⊎ ((IsTrue (is_some o) × (condition_on headers o ≢ Met) × IsStatus 412 response) ⊎ IsStatus 503 response)))
 
-    removes_at : (current : Option (List ℕ)) → RemovesOver old headers key current response new → Leads new (At current)
+    removes_at : (current : Option (List ℕ)) → RemovesOver (outcome old response new) headers key current → Leads new (At current)
     removes_at None (kept, status) = (m, inr (refl, inl (refl, status)), kept_sees kept)
     removes_at (Some text) (inl (met, inl (live, late, removed, status))) =
         (without_key m key, inl (refl, met, refl, status), removed_sees key live removed)
@@ -113,7 +112,7 @@ module _ (old new : State) (m : Map) (sees : SeesMap old m) where
         (m, inr (refl, inr (inl (refl, unmet, status))), kept_sees kept)
     removes_at (Some text) (inr (kept, inr failed)) = (m, inr (refl, inr (inr failed)), kept_sees kept)
 
-    pub removes_map : Removes old headers key response new → Leads new (RemovesMap m headers key response)
+    pub removes_map : Removes (outcome old response new) headers key → Leads new (λ after. RemovesMap (outcome m response after) headers key)
     removes_map (inl (live, current, is, removes)) =
         let it = removes_at current removes in
         (it.0, subst (λ o. At o it.0) (sym (current_at key current live is)) it.1, it.2)
@@ -130,53 +129,55 @@ module _ (old new : State) (m : Map) (sees : SeesMap old m) where
   }
 
   module _ (request : HttpRequest (List ℕ)) (response : Response) where
-    from_map : (start : List ℕ) (limit : ℕ) → ListsFrom old (headers_of request) start limit response new
-        → Leads new (ListsFromMap m (headers_of request) start limit response)
+    from_map : (start : List ℕ) (limit : ℕ) → ListsFrom (outcome old response new) (headers_of request) start limit
+        → Leads new (λ after. ListsFromMap (outcome m response after) (headers_of request) start limit)
     from_map start limit (kept, inl (live, entries, page, shown)) =
         (m, (refl, inl (entries, page_at start limit entries live page, shown)), kept_sees kept)
     from_map start limit (kept, inr failed) = (m, (refl, inr failed), kept_sees kept)
 
-    lists_map : Lists old (headers_of request) (query_of request) response new
-        → Leads new (ListsMap m (headers_of request) (query_of request) response)
+    lists_map : Lists (outcome old response new) (headers_of request) (query_of request)
+        → Leads new (λ after. ListsMap (outcome m response after) (headers_of request) (query_of request))
     lists_map (inl (limit, asks, from)) =
         let it = from_map (start_of (query_of request)) limit from in
         (it.0, inl (limit, asks, it.1), it.2)
     lists_map (inr (kept, why)) = (m, inr (refl, why), kept_sees kept)
 
-    pub answered_list : AnsweredList old request response new → Leads new (AnsweredListMap m request response)
+    pub answered_list : AnsweredList request (outcome old response new) → Leads new (λ after. AnsweredListMap request (outcome m response after))
     answered_list (inl (is, lists)) =
         let it = lists_map lists in
         (it.0, inl (is, it.1), it.2)
     answered_list (inr (other, kept, sent)) = (m, inr (other, refl, sent), kept_sees kept)
 
-  module _ {V : Type 0} (means : Meaning V) (tree : V → Tree) where
+  module _ {V : Type 0} (of : Codec V) where
     module _ (headers : Entries FieldValue) (key body : List ℕ) (response : Response) where
       -- a put over what the map has there
       abbrev ValueAt : Option (List ℕ) → Map → Type 0
       ValueAt o after =
-          ((text : List ℕ) × IsTextOf means tree body text × (after ≡ with_text m key text)
+          ((text : List ℕ) × IsTextOf of body text × (after ≡ with_text m key text)
           × IsStatus (if is_some o then 204 else 201) response)
-          ⊎ ((after ≡ m) × ((MeansNoValue means body × IsProblem means body response) ⊎ IsStatus 503 response))
+          ⊎ ((after ≡ m) × ((MeansNoValue of.means body × IsProblem of.means body response) ⊎ IsStatus 503 response))
 
       abbrev OverAt : Option (List ℕ) → Map → Type 0
       OverAt o after =
           ((condition_on headers o ≡ Met) × ValueAt o after)
           ⊎ ((after ≡ m) × (((condition_on headers o ≢ Met) × IsStatus 412 response) ⊎ IsStatus 503 response))
 
-      puts_at : (current : Option (List ℕ)) → PutsOver means tree old headers key current body response new → Leads new (OverAt current)
-      puts_at current (inl (met, inl (live, late, text, of, put, status))) =
-          (with_text m key text, inl (met, inl (text, of, refl, status)), put_sees key text live put)
+      puts_at : (current : Option (List ℕ)) → IfMet (condition_on headers current) (outcome old response new)
+          (PutsOver of (outcome old response new) key body current) → Leads new (OverAt current)
+      puts_at current (inl (met, inl (live, late, text, is, put, status))) =
+          (with_text m key text, inl (met, inl (text, is, refl, status)), put_sees key text live put)
       puts_at current (inl (met, inr (kept, why))) = (m, inl (met, inr (refl, why)), kept_sees kept)
       puts_at current (inr (kept, why)) = (m, inr (refl, why), kept_sees kept)
 
-      pub puts_map : Puts means tree old headers key body response new → Leads new (PutsMap means tree m headers key body response)
+      pub puts_map : Puts of (outcome old response new) headers key body
+          → Leads new (λ after. PutsMap of (outcome m response after) headers key body)
       puts_map (inl (live, current, is, puts)) =
           let it = puts_at current puts in
           (it.0, subst (λ o. OverAt o it.0) (sym (current_at key current live is)) it.1, it.2)
       puts_map (inr (kept, failed)) = (m, inr (refl, inr failed), kept_sees kept)
 
-    answered_at : (key : List ℕ) (request : HttpRequest (List ℕ)) (response : Response) → AnsweredAt means tree old key request response new
-        → Leads new (AnsweredAtMap means tree m key request response)
+    answered_at : (key : List ℕ) (request : HttpRequest (List ℕ)) (response : Response)
+        → AnsweredAt of key request (outcome old response new) → Leads new (λ after. AnsweredAtMap of key request (outcome m response after))
     answered_at key request response (inl (is, reads)) =
         let it = reads_map (headers_of request) key response reads in
         (it.0, inl (is, it.1), it.2)
@@ -189,13 +190,13 @@ module _ (old new : State) (m : Map) (sees : SeesMap old m) where
     answered_at key request response (inr (inr (inr (is, kept, sent)))) =
         (m, inr (inr (inr (is, refl, sent))), kept_sees kept)
 
-    pub answered_map : (request : HttpRequest (List ℕ)) (response : Response) → Answered means tree old request response new
-        → Leads new (AnsweredMap means tree m request response)
+    pub answered_map : (request : HttpRequest (List ℕ)) (response : Response) → Answered of request (outcome old response new)
+        → Leads new (AnsweredMap of m request response)
     answered_map request response (inl (key, is, answer)) =
         let it = answered_at key request response answer in
         (it.0, inl (key, is, it.1), it.2)
     answered_map request response (inr (inl (is, lists))) =
         let it = answered_list request response lists in
         (it.0, inr (inl (is, it.1)), it.2)
-    answered_map request response (inr (inr (none, no_list, kept, sent))) =
+    answered_map request response (inr (inr (none, no_list, (kept, sent)))) =
         (m, inr (inr (none, no_list, refl, sent)), kept_sees kept)

@@ -4,16 +4,14 @@ use Rattle.std.proofs.Common.{Some, Result, Ok, Err, is_ok, OnOk, OnErr, IsTrue}
 use Rattle.std.proofs.Common.{refl, sym, subst, ◌∙◌, true≢false}
 use Rattle.http.specs.declared.request.Request.{Request as HttpRequest}
 use Rattle.http_server.specs.declared.response.Response.{Response}
-use Rattle.miniserde.specs.Tree.{Tree}
-use Rattle.miniserde.specs.Meaning.{Meaning}
 use Rattle.sqlite.specs.Effect.{Database}
 use Rattle.sqlite.specs.State.{State, HasCleanDisk}
 use Rattle.sqlite.specs.declared.error.Error.{Error}
 use Rattle.rows.specs.Entries.{entry_schema, IsStore, IsCommitted, IsBegun, IsBack, Holds, Aborts}
 use Rattle.rows.proofs.Serving.{aborts_keeps, aborts_serving}
-use Rattle.store.specs.Answered.{IsInside, IsLost, GoesIn}
+use Rattle.store.specs.Answered.{Codec, outcome, IsInside, IsLost, GoesIn}
 use Rattle.store.specs.Maps.{Map, IsMapOf, SeesMap, ServesMap, AnsweredMap}
-use Rattle.store.specs.Rounds.{IsUnderWay, IsOff, InRound, IsBetween, AnsweredInRound, SettlesRound}
+use Rattle.store.specs.Rounds.{IsUnderWay, IsOff, InRound, IsBetween, round_state, AnsweredInRound, SettlesRound}
 use Rattle.store.proofs.MapLemmas.{Leads, kept_sees}
 use Rattle.store.proofs.Steps.{unchanged_inside, rolled_lost}
 
@@ -108,14 +106,14 @@ called begun base s P Answer true is (inr lost) leads same = absurd (true≢fals
 called begun base s P Answer false is (inr lost) leads same = (begun, (base, inl lost, is), λ no. absurd (true≢false (sym no)))
 
 -- a call in a round that stood, whose answer is that of the map
-pub answered : {V : Type 0} (means : Meaning V) (tree : V → Tree) (old new : State) (stood stands : Bool) (request : HttpRequest (List ℕ))
+pub answered : {V : Type 0} (of : Codec V) (old new : State) (stood stands : Bool) (request : HttpRequest (List ℕ))
     (response : Response) (Answer : Map → Map → Type 0) → stood ≡ true
     → (HasCleanDisk new → HasCleanDisk old × ((begun m : Map) → IsUnderWay begun old m → (after : Map)
     × InRound begun new stands after × (IsTrue stands → Answer m after)))
-    → ((m after : Map) → Answer m after → AnsweredMap means tree m request response after)
-    → AnsweredInRound means tree old stood request response new stands
-answered means tree old new stood stands request response Answer stood_is call leads =
-    subst (λ v. AnsweredInRound means tree old v request response new stands) (sym stood_is) (λ clean.
+    → ((m after : Map) → Answer m after → AnsweredMap of m request response after)
+    → AnsweredInRound of request (outcome (round_state old stood) response (round_state new stands))
+answered of old new stood stands request response Answer stood_is call leads =
+    subst (λ v. AnsweredInRound of request (outcome (round_state old v) response (round_state new stands))) (sym stood_is) (λ clean.
     let it = call clean in (
       it.0,
       λ begun m way.

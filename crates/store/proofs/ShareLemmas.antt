@@ -4,16 +4,15 @@ use Rattle.std.proofs.Common.{IsTrue, refl, sym, subst, true≢false}
 use Rattle.http.specs.declared.request.Request.{Request as HttpRequest}
 use Rattle.http_server.specs.declared.response.Response.{Response}
 use Rattle.http_server.specs.Exchange.{Call, Chain}
-use Rattle.miniserde.specs.Tree.{Tree}
-use Rattle.miniserde.specs.Meaning.{Meaning}
 use Rattle.sqlite_trees.specs.declared.store.Store.{Ghosts}
 use Rattle.sqlite.specs.Held.{Held, state}
 use Rattle.sqlite.specs.State.{State, HasCleanDisk}
 use Rattle.turns.specs.declared.peers.Peer.{Peer}
 use Rattle.turns.specs.Shared.{Turns, all_calls}
 use Rattle.turns.specs.Settled.{IsSettled}
+use Rattle.store.specs.Answered.{Codec, outcome}
 use Rattle.store.specs.Maps.{Map, AnsweredMap}
-use Rattle.store.specs.Rounds.{InRound, IsBetween, AnsweredInRound, SettlesRound, AnsweredIf, LeavesMap}
+use Rattle.store.specs.Rounds.{InRound, IsBetween, round_state, AnsweredInRound, SettlesRound, AnsweredIf, LeavesMap}
 use Rattle.store.proofs.ChainLemmas.{back}
 
 -- a round begins at the map of what was between the rounds
@@ -21,16 +20,17 @@ starts : (m : Map) (s : State) (ready : Bool) → IsBetween m s ready → InRoun
 starts m s true represents = inl (represents, refl)
 starts m s false off = off
 
-module _ {S : Type 0} (g : Ghosts S) {V : Type 0} (means : Meaning V) (tree : V → Tree) where
+module _ {S : Type 0} (g : Ghosts S) {V : Type 0} (of : Codec V) where
   -- what the service answers in a round; a state is its connection, and whether the round still stands
   abbrev pub answers : Held S × Bool → HttpRequest (List ℕ) → Response → Held S × Bool → Type 0
-  answers old request response new = AnsweredInRound means tree (state g old.0) old.1 request response (state g new.0) new.1
+  answers old request response new =
+      AnsweredInRound of request (outcome (round_state (state g old.0) old.1) response (round_state (state g new.0) new.1))
 
   -- the calls of a round that still stands are answered by the map to which it has come
   answered_in_round : (calls : List Call) (old new : Held S × Bool) (begun m : Map) → Chain answers old calls new
       → HasCleanDisk (state g new.0) → InRound begun (state g old.0) old.1 m
       → (last : Map) × InRound begun (state g new.0) new.1 last
-      × (IsTrue new.1 → IsTrue old.1 × Chain (AnsweredMap means tree) m calls last)
+      × (IsTrue new.1 → IsTrue old.1 × Chain (AnsweredMap of) m calls last)
   answered_in_round [] old new begun m same clean way = (
     m,
     subst (λ h. InRound begun (state g h.0) h.1 m) (sym same) way,
@@ -53,29 +53,29 @@ module _ {S : Type 0} (g : Ghosts S) where
   abbrev pub settles : Held S × Bool → Bool → Held S × Bool → Type 0
   settles old kept new = SettlesRound (state g old.0) old.1 kept (state g new.0) new.1
 
-module _ {V : Type 0} (means : Meaning V) (tree : V → Tree) where
+module _ {V : Type 0} (of : Codec V) where
   -- the calls of a round that is committed, and of one that is not
-  answered_if : (calls : List Call) (m last : Map) → Chain (AnsweredMap means tree) m calls last
-      → Chain (AnsweredIf means tree true) m calls last
+  answered_if : (calls : List Call) (m last : Map) → Chain (AnsweredMap of) m calls last
+      → Chain (AnsweredIf of true) m calls last
   answered_if [] m last same = same
   answered_if (c ∷ calls) m last (next, one, later) = (next, λ _. one, answered_if calls next last later)
 
-  unanswered : (calls : List Call) (m : Map) → Chain (AnsweredIf means tree false) m calls m
+  unanswered : (calls : List Call) (m : Map) → Chain (AnsweredIf of false) m calls m
   unanswered [] m = refl
   unanswered (c ∷ calls) m = (m, λ no. absurd (true≢false (sym no)), unanswered calls m)
 
-module _ {S : Type 0} (g : Ghosts S) {V T : Type 0} (means : Meaning V) (tree : V → Tree) (remaining contents : T → Option (List ℕ))
+module _ {S : Type 0} (g : Ghosts S) {V T : Type 0} (of : Codec V) (remaining contents : T → Option (List ℕ))
     (keys : List ℕ) (old new : Held S × Bool) (before after : ℕ → Option (Peer T)) (turns : Turns) where
   -- what a round is to the service, and to the map
   abbrev pub Settled : Bool → Type 0
-  Settled kept = IsSettled (answers g means tree) (settles g) remaining contents keys old new before after turns kept
+  Settled kept = IsSettled (answers g of) (settles g) remaining contents keys old new before after turns kept
 
   abbrev pub SettledMap : Map → Map → Bool → Type 0
   SettledMap m last kept =
-      IsSettled (AnsweredIf means tree kept) (LeavesMap m) remaining contents keys m last before after turns kept
+      IsSettled (AnsweredIf of kept) (LeavesMap m) remaining contents keys m last before after turns kept
 
   -- the round of the service, with the maps in place of its states
-  over_map : (kept : Bool) (m called : Map) (it : Settled kept) → Chain (AnsweredIf means tree kept) m (all_calls turns) called
+  over_map : (kept : Bool) (m called : Map) (it : Settled kept) → Chain (AnsweredIf of kept) m (all_calls turns) called
       → SettledMap m (if kept then called else m) kept
   over_map kept m called it calls = record {
     called = called;
@@ -95,14 +95,14 @@ module _ {S : Type 0} (g : Ghosts S) {V T : Type 0} (means : Meaning V) (tree : 
       × (IsTrue kept → IsTrue new.1 × (IsTrue (state g new.0).is_open ⊎ (last ≡ m)))
   round_of_map true it clean m ready =
       let settled = it.settled clean in
-      let way = answered_in_round g means tree (all_calls turns) old it.called m m it.shared.calls settled.0
+      let way = answered_in_round g of (all_calls turns) old it.called m m it.shared.calls settled.0
       (starts m (state g old.0) old.1 ready) in
       let end = settled.1 m way.0 way.1 in
       let stood = end.1 refl in
-      (way.0, over_map true m way.0 it (answered_if means tree (all_calls turns) m way.0 (way.2 stood.0).1), end.0, λ _. (stood.1, stood.2))
+      (way.0, over_map true m way.0 it (answered_if of (all_calls turns) m way.0 (way.2 stood.0).1), end.0, λ _. (stood.1, stood.2))
   round_of_map false it clean m ready =
       let settled = it.settled clean in
-      let way = answered_in_round g means tree (all_calls turns) old it.called m m it.shared.calls settled.0
+      let way = answered_in_round g of (all_calls turns) old it.called m m it.shared.calls settled.0
       (starts m (state g old.0) old.1 ready) in
       let end = settled.1 m way.0 way.1 in
-      (m, over_map false m m it (unanswered means tree (all_calls turns) m), end.0, λ no. absurd (true≢false (sym no)))
+      (m, over_map false m m it (unanswered of (all_calls turns) m), end.0, λ no. absurd (true≢false (sym no)))

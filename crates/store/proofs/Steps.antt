@@ -7,10 +7,9 @@ use Rattle.sqlite.specs.Effect.{Database}
 use Rattle.sqlite.specs.State.{State, HasCleanDisk, IsUnchanged, IsRolledBack}
 use Rattle.rows.specs.Entries.{entry_schema, IsStore, IsPage, IsPut, IsRemoved, IsServing, StaysInside, Keeps, Aborts}
 use Rattle.store.specs.Lists.{object_text}
-use Rattle.store.specs.Answered.{IsTextOf, IsStatus, IsCurrent, Shows, Reads, PutsAs, PutsValue, PutsOver, Puts, ListsFrom}
+use Rattle.store.specs.Answered.{Codec, Outcome, outcome, IsTextOf, IsStatus, IsCurrent, condition_on, Shows, Reads}
+use Rattle.store.specs.Answered.{PutsAs, PutsValue, IfMet, PutsOver, Puts, ListsFrom}
 use Rattle.store.specs.Answered.{TakesRow, RemovesOver, Removes, IsInside, IsLost, IsReady, GoesIn, Goes}
-use Rattle.miniserde.specs.Tree.{Tree}
-use Rattle.miniserde.specs.Meaning.{Meaning}
 
 pub keeps_self : (s : State) → Keeps s s
 keeps_self s live = (live, refl)
@@ -75,11 +74,10 @@ ok_by (Ok a) P Q f h = f h
 ok_by (Err e) P Q f h = tt
 
 -- a text that was put is that of the value that the body means
-pub value_by : {V : Type 0} (means : Meaning V) (tree : V → Tree) (old new : State) (key body text : List ℕ) (code : ℕ)
-    (response : Response)
-    → IsTextOf means tree body text → PutsAs old key text code response new → PutsValue means tree old key body code response new
-value_by means tree old new key body text code response of (inl (live, on, put, status)) = inl (live, on, text, of, put, status)
-value_by means tree old new key body text code response of (inr (kept, status)) = inr (kept, inr status)
+pub value_by : {V : Type 0} (of : Codec V) (o : Outcome State) (key body text : List ℕ) (code : ℕ)
+    → IsTextOf of body text → PutsAs o key text code → PutsValue of o key body code
+value_by of o key body text code is (inl (live, on, put, status)) = inl (live, on, text, is, put, status)
+value_by of o key body text code is (inr (kept, status)) = inr (kept, inr status)
 
 -- what `rows` says of a query that returned
 pub record Finds (a b : State) : Type 0 where
@@ -176,59 +174,64 @@ module _ (a b : State) where
   -- what the key has was shown, or could not be
   pub read_found : (headers : Entries FieldValue) (key : List ℕ) (current : Option (List ℕ)) (response : Response)
       → Stays a b (Found (IsCurrent a.now key current)) → Shows headers current response ⊎ IsStatus 503 response
-      → Goes a b (Reads a headers key response b)
+      → Goes a b (Reads (outcome a response b) headers key)
   read_found headers key current response query shown =
-      then a b b _ (key ≡ key) (Reads a headers key response b) query (stays b (key ≡ key) refl) (λ it _. by it shown)
+      then a b b _ (key ≡ key) (Reads (outcome a response b) headers key) query (stays b (key ≡ key) refl) (λ it _. by it shown)
     where
-      by : Found (IsCurrent a.now key current) → Shows headers current response ⊎ IsStatus 503 response → Reads a headers key response b
+      by : Found (IsCurrent a.now key current) → Shows headers current response ⊎ IsStatus 503 response
+          → Reads (outcome a response b) headers key
       by (live, kept, is) (inl shown) = (kept, inl (live, current, is, shown))
       by (live, kept, is) (inr status) = (kept, inr status)
 
   -- a page was shown, or could not be
   pub page_found : (headers : Entries FieldValue) (start : List ℕ) (limit : ℕ) (entries : List (List ℕ × List ℕ)) (response : Response)
       → Stays a b (Found (IsPage a.now start limit entries)) → Shows headers (Some (object_text entries)) response ⊎ IsStatus 503 response
-      → Goes a b (ListsFrom a headers start limit response b)
+      → Goes a b (ListsFrom (outcome a response b) headers start limit)
   page_found headers start limit entries response query shown =
-      then a b b _ (start ≡ start) (ListsFrom a headers start limit response b) query (stays b (start ≡ start) refl) (λ it _. by it shown)
+      then a b b _ (start ≡ start) (ListsFrom (outcome a response b) headers start limit) query (stays b (start ≡ start) refl) (λ it _. by it shown)
     where
       by : Found (IsPage a.now start limit entries) → Shows headers (Some (object_text entries)) response ⊎ IsStatus 503 response
-          → ListsFrom a headers start limit response b
+          → ListsFrom (outcome a response b) headers start limit
       by (live, kept, is) (inl shown) = (kept, inl (live, entries, is, shown))
       by (live, kept, is) (inr status) = (kept, inr status)
 
   -- the query was followed by another call, from b to c
   module _ (c : State) where
-    module _ {V : Type 0} (means : Meaning V) (tree : V → Tree) (headers : Entries FieldValue) (key body : List ℕ)
-        (response : Response) where
-      value_from : (code : ℕ) → Keeps a b → PutsValue means tree b key body code response c
-          → PutsValue means tree a key body code response c
-      value_from code keeps (inl (live, late, text, of, put, status)) =
-          inl ((keeps live).0, late, text, of, subst (λ db. IsPut db c.now key text) (keeps live).1 put, status)
+    module _ {V : Type 0} (of : Codec V) (headers : Entries FieldValue) (key body : List ℕ) (response : Response) where
+      value_from : (code : ℕ) → Keeps a b → PutsValue of (outcome b response c) key body code
+          → PutsValue of (outcome a response c) key body code
+      value_from code keeps (inl (live, late, text, is, put, status)) =
+          inl ((keeps live).0, late, text, is, subst (λ db. IsPut db c.now key text) (keeps live).1 put, status)
       value_from code keeps (inr (on, why)) = inr (keeps_then a b c keeps on, why)
 
-      over_from : (current : Option (List ℕ)) → Keeps a b → PutsOver means tree b headers key current body response c
-          → PutsOver means tree a headers key current body response c
+      -- a put over what the key has, if the conditions hold for that
+      abbrev IfMetOver : State → Option (List ℕ) → Type 0
+      IfMetOver s current =
+          let o = outcome s response c in
+          IfMet (condition_on headers current) o (PutsOver of o key body current)
+
+      over_from : (current : Option (List ℕ)) → Keeps a b → IfMetOver b current → IfMetOver a current
       over_from current keeps (inl (met, value)) = inl (met, value_from _ keeps value)
       over_from current keeps (inr (on, why)) = inr (keeps_then a b c keeps on, why)
 
       pub put_over : (current : Option (List ℕ)) → Stays a b (Found (IsCurrent a.now key current))
-          → Goes b c (PutsOver means tree b headers key current body response c) → Goes a c (Puts means tree a headers key body response c)
-      put_over current query goes = then a b c _ _ (Puts means tree a headers key body response c) query goes (λ it over.
+          → Goes b c (IfMetOver b current) → Goes a c (Puts of (outcome a response c) headers key body)
+      put_over current query goes = then a b c _ _ (Puts of (outcome a response c) headers key body) query goes (λ it over.
           inl (it.0, current, it.2, over_from current it.1 over))
 
     module _ (headers : Entries FieldValue) (key : List ℕ) (response : Response) where
-      take_from : Keeps a b → TakesRow b key response c → TakesRow a key response c
+      take_from : Keeps a b → TakesRow (outcome b response c) key → TakesRow (outcome a response c) key
       take_from keeps (inl (live, late, removed, status)) =
           inl ((keeps live).0, late, subst (λ db. IsRemoved db c.now key) (keeps live).1 removed, status)
       take_from keeps (inr (on, status)) = inr (keeps_then a b c keeps on, status)
 
-      removes_from : (current : Option (List ℕ)) → Keeps a b → RemovesOver b headers key current response c
-          → RemovesOver a headers key current response c
+      removes_from : (current : Option (List ℕ)) → Keeps a b → RemovesOver (outcome b response c) headers key current
+          → RemovesOver (outcome a response c) headers key current
       removes_from None keeps (on, status) = (keeps_then a b c keeps on, status)
       removes_from (Some text) keeps (inl (met, takes)) = inl (met, take_from keeps takes)
       removes_from (Some text) keeps (inr (on, why)) = inr (keeps_then a b c keeps on, why)
 
       pub remove_over : (current : Option (List ℕ)) → Stays a b (Found (IsCurrent a.now key current))
-          → Goes b c (RemovesOver b headers key current response c) → Goes a c (Removes a headers key response c)
-      remove_over current query goes = then a b c _ _ (Removes a headers key response c) query goes (λ it over.
+          → Goes b c (RemovesOver (outcome b response c) headers key current) → Goes a c (Removes (outcome a response c) headers key)
+      remove_over current query goes = then a b c _ _ (Removes (outcome a response c) headers key) query goes (λ it over.
           inl (it.0, current, it.2, removes_from current it.1 over))

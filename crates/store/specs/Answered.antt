@@ -62,9 +62,28 @@ allow_list_field = (codes "allow", codes "GET, HEAD")
 abbrev pub limit_problem : List ℕ
 limit_problem = compact (problem (codes "the limit is no number from 1 to 1000") None)
 
+-- how the values of a type are read and written: which trees mean which values, and the tree of a value
+pub record Codec (V : Type 0) : Type 1 where
+  pub means : Meaning V
+  pub tree : V → Tree
+
+-- the codec whose fields are the arguments
+abbrev pub codec : {V : Type 0} → Meaning V → (V → Tree) → Codec V
+codec means tree = record { means = means; tree = tree }
+
+-- what a call leads to: from the state before, by its response, to the state after
+pub record Outcome {ℓ} (S : Type ℓ) : Type ℓ where
+  pub old : S
+  pub response : Response
+  pub new : S
+
+-- the outcome whose fields are the arguments
+abbrev pub outcome {ℓ} : {S : Type ℓ} → S → Response → S → Outcome S
+outcome old response new = record { old = old; response = response; new = new }
+
 -- the body means a value whose canonical text is this
-abbrev pub IsTextOf : {V : Type 0} → Meaning V → (V → Tree) → List ℕ → List ℕ → Type 0
-IsTextOf {V} means tree body text = (t : Tree) × (v : V) × IsJson body t × means.reads t v × (text ≡ canonical_text (tree v))
+abbrev pub IsTextOf : {V : Type 0} → Codec V → List ℕ → List ℕ → Type 0
+IsTextOf {V} of body text = (t : Tree) × (v : V) × IsJson body t × of.means.reads t v × (text ≡ canonical_text (of.tree v))
 
 -- the body means no value
 abbrev pub MeansNoValue : {V : Type 0} → Meaning V → List ℕ → Type 0
@@ -100,97 +119,101 @@ abbrev pub IsCurrent : Database → List ℕ → Option (List ℕ) → Type 0
 IsCurrent db key None = HasKey db key → ⊥
 IsCurrent db key (Some text) = Holds db key text
 
+-- the rows are as before, and the response is empty and has this status
+abbrev pub LeavesAt : ℕ → Outcome State → Type 0
+LeavesAt code o = Keeps o.old o.new × IsStatus code o.response
+
 -- the response to a read. 503: the database failed, or an allocation. Reads change no row.
-abbrev pub Reads : State → Entries FieldValue → List ℕ → Response → State → Type 0
-Reads old headers key response new =
-    Keeps old new × ((IsTrue old.is_open × (current : Option (List ℕ)) × IsCurrent old.now key current × Shows headers current response)
-    ⊎ IsStatus 503 response)
+abbrev pub Reads : Outcome State → Entries FieldValue → List ℕ → Type 0
+Reads o headers key =
+    Keeps o.old o.new × ((IsTrue o.old.is_open × (current : Option (List ℕ)) × IsCurrent o.old.now key current
+    × Shows headers current o.response)
+    ⊎ IsStatus 503 o.response)
 
 -- What becomes of a text that is put under a key, with this status if it is. The connection is then open, so what it serves
 -- (`IsServing`) is committed.
-abbrev pub PutsAs : State → List ℕ → List ℕ → ℕ → Response → State → Type 0
-PutsAs old key text code response new =
-    (IsTrue old.is_open × IsTrue new.is_open × IsPut old.now new.now key text × IsStatus code response)
-    ⊎ (Keeps old new × IsStatus 503 response)
+abbrev pub PutsAs : Outcome State → List ℕ → List ℕ → ℕ → Type 0
+PutsAs o key text code =
+    (IsTrue o.old.is_open × IsTrue o.new.is_open × IsPut o.old.now o.new.now key text × IsStatus code o.response)
+    ⊎ LeavesAt 503 o
 
 -- What becomes of the row of a key that is removed. If it is, the connection is open, so what it serves (`IsServing`) is
 -- committed.
-abbrev pub TakesRow : State → List ℕ → Response → State → Type 0
-TakesRow old key response new =
-    (IsTrue old.is_open × IsTrue new.is_open × IsRemoved old.now new.now key × IsStatus 204 response)
-    ⊎ (Keeps old new × IsStatus 503 response)
+abbrev pub TakesRow : Outcome State → List ℕ → Type 0
+TakesRow o key =
+    (IsTrue o.old.is_open × IsTrue o.new.is_open × IsRemoved o.old.now o.new.now key × IsStatus 204 o.response)
+    ⊎ LeavesAt 503 o
 
 -- The body means a value, and its canonical text is put under the key, with this status if it is. The connection is then open,
 -- so what it serves is committed. 400: the body means no value, and the response says why. 503: the database failed, or an
 -- allocation.
-abbrev pub PutsValue : {V : Type 0} → Meaning V → (V → Tree) → State → List ℕ → List ℕ → ℕ → Response → State → Type 0
-PutsValue means tree old key body code response new =
-    (IsTrue old.is_open × IsTrue new.is_open × (text : List ℕ) × IsTextOf means tree body text × IsPut old.now new.now key text
-    × IsStatus code response)
-    ⊎ (Keeps old new × ((MeansNoValue means body × IsProblem means body response) ⊎ IsStatus 503 response))
+abbrev pub PutsValue : {V : Type 0} → Codec V → Outcome State → List ℕ → List ℕ → ℕ → Type 0
+PutsValue of o key body code =
+    (IsTrue o.old.is_open × IsTrue o.new.is_open × (text : List ℕ) × IsTextOf of body text × IsPut o.old.now o.new.now key text
+    × IsStatus code o.response)
+    ⊎ (Keeps o.old o.new × ((MeansNoValue of.means body × IsProblem of.means body o.response) ⊎ IsStatus 503 o.response))
 
--- A put over what the key has. 201: nothing. 204: a text. 412: the conditions do not hold (sections 13.1.1 and 13.1.2).
-abbrev pub PutsOver : {V : Type 0} → Meaning V → (V → Tree) → State → Entries FieldValue → List ℕ → Option (List ℕ) → List ℕ → Response
-    → State → Type 0
-PutsOver means tree old headers key current body response new =
-    ((condition_on headers current ≡ Met) × PutsValue means tree old key body (if is_some current then 204 else 201) response new)
-    ⊎ (Keeps old new × (((condition_on headers current ≢ Met) × IsStatus 412 response) ⊎ IsStatus 503 response))
+-- The step, if the conditions hold. 412: they do not (RFC 9110, sections 13.1.1 and 13.1.2). 503: that could not be found out.
+abbrev pub IfMet : Condition → Outcome State → Type 0 → Type 0
+IfMet condition o Step =
+    ((condition ≡ Met) × Step) ⊎ (Keeps o.old o.new × (((condition ≢ Met) × IsStatus 412 o.response) ⊎ IsStatus 503 o.response))
+
+-- a put of a value over what the key has. 201: nothing. 204: a text.
+abbrev pub PutsOver : {V : Type 0} → Codec V → Outcome State → List ℕ → List ℕ → Option (List ℕ) → Type 0
+PutsOver of o key body current = PutsValue of o key body (if is_some current then 204 else 201)
 
 -- the response to a put
-abbrev pub Puts : {V : Type 0} → Meaning V → (V → Tree) → State → Entries FieldValue → List ℕ → List ℕ → Response → State → Type 0
-Puts means tree old headers key body response new =
-    (IsTrue old.is_open × (current : Option (List ℕ)) × IsCurrent old.now key current
-    × PutsOver means tree old headers key current body response new)
-    ⊎ (Keeps old new × IsStatus 503 response)
+abbrev pub Puts : {V : Type 0} → Codec V → Outcome State → Entries FieldValue → List ℕ → List ℕ → Type 0
+Puts of o headers key body =
+    (IsTrue o.old.is_open × (current : Option (List ℕ)) × IsCurrent o.old.now key current
+    × IfMet (condition_on headers current) o (PutsOver of o key body current))
+    ⊎ LeavesAt 503 o
 
 -- a removal of what the key has. 204: no row has the key any more. 404: none had it. 412: the conditions do not hold.
-abbrev pub RemovesOver : State → Entries FieldValue → List ℕ → Option (List ℕ) → Response → State → Type 0
-RemovesOver old headers key None response new = Keeps old new × IsStatus 404 response
-RemovesOver old headers key (Some text) response new =
-    ((condition_on headers (Some text) ≡ Met) × TakesRow old key response new)
-    ⊎ (Keeps old new × (((condition_on headers (Some text) ≢ Met) × IsStatus 412 response) ⊎ IsStatus 503 response))
+abbrev pub RemovesOver : Outcome State → Entries FieldValue → List ℕ → Option (List ℕ) → Type 0
+RemovesOver o headers key None = LeavesAt 404 o
+RemovesOver o headers key (Some text) = IfMet (condition_on headers (Some text)) o (TakesRow o key)
 
 -- the response to a removal
-abbrev pub Removes : State → Entries FieldValue → List ℕ → Response → State → Type 0
-Removes old headers key response new =
-    (IsTrue old.is_open × (current : Option (List ℕ)) × IsCurrent old.now key current
-    × RemovesOver old headers key current response new)
-    ⊎ (Keeps old new × IsStatus 503 response)
+abbrev pub Removes : Outcome State → Entries FieldValue → List ℕ → Type 0
+Removes o headers key =
+    (IsTrue o.old.is_open × (current : Option (List ℕ)) × IsCurrent o.old.now key current × RemovesOver o headers key current)
+    ⊎ LeavesAt 503 o
 
 -- the response to a request for an entry, by its method
-abbrev pub AnsweredAt : {V : Type 0} → Meaning V → (V → Tree) → State → List ℕ → HttpRequest (List ℕ) → Response → State → Type 0
-AnsweredAt means tree old key request response new =
-    (IsRead (method_of request) × Reads old (headers_of request) key response new)
-    ⊎ (((method_of request ≡ put_method) × Puts means tree old (headers_of request) key (body_of request) response new)
-    ⊎ (((method_of request ≡ delete_method) × Removes old (headers_of request) key response new)
-    ⊎ (IsOther (method_of request) × Keeps old new × IsResponse 405 (allow_field ∷ []) [] response)))
+abbrev pub AnsweredAt : {V : Type 0} → Codec V → List ℕ → HttpRequest (List ℕ) → Outcome State → Type 0
+AnsweredAt of key request o =
+    (IsRead (method_of request) × Reads o (headers_of request) key)
+    ⊎ (((method_of request ≡ put_method) × Puts of o (headers_of request) key (body_of request))
+    ⊎ (((method_of request ≡ delete_method) × Removes o (headers_of request) key)
+    ⊎ (IsOther (method_of request) × Keeps o.old o.new × IsResponse 405 (allow_field ∷ []) [] o.response)))
 
 -- The first entries from a key on, at most so many, are shown as one object. 503: the database failed, or an allocation.
-abbrev pub ListsFrom : State → Entries FieldValue → List ℕ → ℕ → Response → State → Type 0
-ListsFrom old headers start limit response new =
-    Keeps old new × ((IsTrue old.is_open × (entries : List (List ℕ × List ℕ)) × IsPage old.now start limit entries
-    × Shows headers (Some (object_text entries)) response)
-    ⊎ IsStatus 503 response)
+abbrev pub ListsFrom : Outcome State → Entries FieldValue → List ℕ → ℕ → Type 0
+ListsFrom o headers start limit =
+    Keeps o.old o.new × ((IsTrue o.old.is_open × (entries : List (List ℕ × List ℕ)) × IsPage o.old.now start limit entries
+    × Shows headers (Some (object_text entries)) o.response)
+    ⊎ IsStatus 503 o.response)
 
 -- the response to a query for entries. 400: the query asks for no limit that there is.
-abbrev pub Lists : State → Entries FieldValue → List ℕ → Response → State → Type 0
-Lists old headers query response new =
-    ((limit : ℕ) × AsksFor query limit × ListsFrom old headers (start_of query) limit response new)
-    ⊎ (Keeps old new × ((((limit : ℕ) → AsksFor query limit → ⊥) × IsResponse 400 (problem_field ∷ []) limit_problem response)
-    ⊎ IsStatus 503 response))
+abbrev pub Lists : Outcome State → Entries FieldValue → List ℕ → Type 0
+Lists o headers query =
+    ((limit : ℕ) × AsksFor query limit × ListsFrom o headers (start_of query) limit)
+    ⊎ (Keeps o.old o.new × ((((limit : ℕ) → AsksFor query limit → ⊥) × IsResponse 400 (problem_field ∷ []) limit_problem o.response)
+    ⊎ IsStatus 503 o.response))
 
 -- the response to a request for the list of entries, by its method
-abbrev pub AnsweredList : State → HttpRequest (List ℕ) → Response → State → Type 0
-AnsweredList old request response new =
-    (IsRead (method_of request) × Lists old (headers_of request) (query_of request) response new)
-    ⊎ ((IsRead (method_of request) → ⊥) × Keeps old new × IsResponse 405 (allow_list_field ∷ []) [] response)
+abbrev pub AnsweredList : HttpRequest (List ℕ) → Outcome State → Type 0
+AnsweredList request o =
+    (IsRead (method_of request) × Lists o (headers_of request) (query_of request))
+    ⊎ ((IsRead (method_of request) → ⊥) × Keeps o.old o.new × IsResponse 405 (allow_list_field ∷ []) [] o.response)
 
--- the response to a request, and the states of the connection before and after it
-abbrev pub Answered : {V : Type 0} → Meaning V → (V → Tree) → State → HttpRequest (List ℕ) → Response → State → Type 0
-Answered means tree old request response new =
-    ((key : List ℕ) × IsEntry (path_of request) key × AnsweredAt means tree old key request response new)
-    ⊎ ((IsList (path_of request) × AnsweredList old request response new)
-    ⊎ (((key : List ℕ) → IsEntry (path_of request) key → ⊥) × (IsList (path_of request) → ⊥) × Keeps old new × IsStatus 404 response))
+-- what a request leads to
+abbrev pub Answered : {V : Type 0} → Codec V → HttpRequest (List ℕ) → Outcome State → Type 0
+Answered of request o =
+    ((key : List ℕ) × IsEntry (path_of request) key × AnsweredAt of key request o)
+    ⊎ ((IsList (path_of request) × AnsweredList request o)
+    ⊎ (((key : List ℕ) → IsEntry (path_of request) key → ⊥) × (IsList (path_of request) → ⊥) × LeavesAt 404 o))
 
 -- the connection is inside of a transaction, where it sees a store, and its last commit is this store
 pub record IsInside (base : Database) (s : State) : Type 0 where

@@ -3,10 +3,8 @@ use Rattle.std.specs.Prelude.{◌≡◌, ◌⊎◌, ℕ, List, ◌∷◌, ◌++�
 use Rattle.std.specs.List.{AllByRecursion}
 use Rattle.http.specs.Request.{body_of}
 use Rattle.http_server.specs.Exchange.{Call, Chain}
-use Rattle.miniserde.specs.Tree.{Tree}
-use Rattle.miniserde.specs.Meaning.{Meaning}
 use Rattle.store.specs.Routes.{IsEntry, path_of, method_of, put_method, delete_method}
-use Rattle.store.specs.Answered.{IsTextOf}
+use Rattle.store.specs.Answered.{Codec, IsTextOf}
 use Rattle.store.specs.Maps.{Map, empty, AnsweredMap}
 
 -- a put or a removal of the key that was answered by success
@@ -14,9 +12,9 @@ abbrev pub Changes : List ℕ → Call → Type 0
 Changes key c = IsEntry (path_of c.0) key × ((c.1.status ≡ 201) ⊎ (c.1.status ≡ 204))
 
 -- a put of a value of this canonical text under the key, answered by success
-abbrev pub IsPutOf : {V : Type 0} → Meaning V → (V → Tree) → List ℕ → List ℕ → Call → Type 0
-IsPutOf means tree key text c =
-    IsEntry (path_of c.0) key × (method_of c.0 ≡ put_method) × IsTextOf means tree (body_of c.0) text
+abbrev pub IsPutOf : {V : Type 0} → Codec V → List ℕ → List ℕ → Call → Type 0
+IsPutOf of key text c =
+    IsEntry (path_of c.0) key × (method_of c.0 ≡ put_method) × IsTextOf of (body_of c.0) text
     × ((c.1.status ≡ 201) ⊎ (c.1.status ≡ 204))
 
 -- a removal of the key, answered by success
@@ -37,6 +35,6 @@ NoPutStands key calls = AreQuiet key calls ⊎ LastIs (IsRemovalOf key) key call
 
 -- After calls that begin with no entry, the text of a key is that of the value that was last put, and there is none only
 -- if no put stands.
-abbrev pub LastPutIsShown : {V : Type 0} → Meaning V → (V → Tree) → Type 0
-LastPutIsShown means tree = (calls : List Call) (m : Map) (key : List ℕ) → Chain (AnsweredMap means tree) empty calls m
-    → MatchOption (m key) (NoPutStands key calls) (λ text. LastIs (IsPutOf means tree key text) key calls)
+abbrev pub LastPutIsShown : {V : Type 0} → Codec V → Type 0
+LastPutIsShown of = (calls : List Call) (m : Map) (key : List ℕ) → Chain (AnsweredMap of) empty calls m
+    → MatchOption (m key) (NoPutStands key calls) (λ text. LastIs (IsPutOf of key text) key calls)

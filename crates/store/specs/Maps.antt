@@ -12,8 +12,6 @@ use Rattle.http_header.specs.FieldValue.{FieldValue}
 use Rattle.http_header.specs.HeaderMap.{Entries}
 use Rattle.http_server.specs.declared.response.Response.{Response}
 use Rattle.http_server.specs.Response.{IsResponse}
-use Rattle.miniserde.specs.Tree.{Tree}
-use Rattle.miniserde.specs.Meaning.{Meaning}
 use Rattle.sqlite.specs.Effect.{Database}
 use Rattle.sqlite.specs.State.{State}
 use Rattle.rows.specs.Entries.{Holds, IsFrom, IsServing}
@@ -21,7 +19,7 @@ use Rattle.store.specs.declared.conditions.Condition.TheVariants.{Met}
 use Rattle.store.specs.Routes.{IsEntry, IsRead, IsOther, path_of, method_of, headers_of, put_method, delete_method}
 use Rattle.store.specs.Lists.{IsList, AsksFor, query_of, start_of, object_text}
 use Rattle.store.specs.Answered.{allow_field, allow_list_field, problem_field, limit_problem, IsTextOf, MeansNoValue, IsProblem, IsStatus}
-use Rattle.store.specs.Answered.{condition_on, Shows}
+use Rattle.store.specs.Answered.{Codec, Outcome, outcome, condition_on, Shows}
 
 -- the text of each key that has one
 abbrev pub Map : Type 0
@@ -41,30 +39,32 @@ without_key m key other = if bytes_eq other key then None else m other
 
 -- A read shows the text of the key as the conditions of the request say, or that there is none. It may fail instead. It
 -- changes nothing.
-abbrev pub ReadsMap : Map → Entries FieldValue → List ℕ → Response → Map → Type 0
-ReadsMap m headers key response after = (after ≡ m) × (Shows headers (m key) response ⊎ IsStatus 503 response)
+abbrev pub ReadsMap : Outcome Map → Entries FieldValue → List ℕ → Type 0
+ReadsMap o headers key = (o.new ≡ o.old) × (Shows headers (o.old key) o.response ⊎ IsStatus 503 o.response)
 
 -- The key gets the canonical text of the value that the body means, or nothing changes. If the body means none, the response
 -- says why.
-abbrev pub PutsValueMap : {V : Type 0} → Meaning V → (V → Tree) → Map → List ℕ → List ℕ → Response → Map → Type 0
-PutsValueMap means tree m key body response after =
-    ((text : List ℕ) × IsTextOf means tree body text × (after ≡ with_text m key text)
-    × IsStatus (if is_some (m key) then 204 else 201) response)
-    ⊎ ((after ≡ m) × ((MeansNoValue means body × IsProblem means body response) ⊎ IsStatus 503 response))
+abbrev pub PutsValueMap : {V : Type 0} → Codec V → Outcome Map → List ℕ → List ℕ → Type 0
+PutsValueMap of o key body =
+    ((text : List ℕ) × IsTextOf of body text × (o.new ≡ with_text o.old key text)
+    × IsStatus (if is_some (o.old key) then 204 else 201) o.response)
+    ⊎ ((o.new ≡ o.old) × ((MeansNoValue of.means body × IsProblem of.means body o.response) ⊎ IsStatus 503 o.response))
 
 -- A put changes the map only if the conditions of the request hold for what the key has: with `If-Match`, for the text whose
 -- tag the client knows.
-abbrev pub PutsMap : {V : Type 0} → Meaning V → (V → Tree) → Map → Entries FieldValue → List ℕ → List ℕ → Response → Map → Type 0
-PutsMap means tree m headers key body response after =
-    ((condition_on headers (m key) ≡ Met) × PutsValueMap means tree m key body response after)
-    ⊎ ((after ≡ m) × (((condition_on headers (m key) ≢ Met) × IsStatus 412 response) ⊎ IsStatus 503 response))
+abbrev pub PutsMap : {V : Type 0} → Codec V → Outcome Map → Entries FieldValue → List ℕ → List ℕ → Type 0
+PutsMap of o headers key body =
+    ((condition_on headers (o.old key) ≡ Met) × PutsValueMap of o key body)
+    ⊎ ((o.new ≡ o.old) × (((condition_on headers (o.old key) ≢ Met) × IsStatus 412 o.response) ⊎ IsStatus 503 o.response))
 
 -- A removal takes the text of the key only if there is one and the conditions hold for it. Any other changes nothing.
-abbrev pub RemovesMap : Map → Entries FieldValue → List ℕ → Response → Map → Type 0
-RemovesMap m headers key response after =
-    (IsTrue (is_some (m key)) × (condition_on headers (m key) ≡ Met) × (after ≡ without_key m key) × IsStatus 204 response)
-    ⊎ ((after ≡ m) × (((m key ≡ None) × IsStatus 404 response)
-    ⊎ ((IsTrue (is_some (m key)) × (condition_on headers (m key) ≢ Met) × IsStatus 412 response) ⊎ IsStatus 503 response)))
+abbrev pub RemovesMap : Outcome Map → Entries FieldValue → List ℕ → Type 0
+RemovesMap o headers key =
+    (IsTrue (is_some (o.old key)) × (condition_on headers (o.old key) ≡ Met) × (o.new ≡ without_key o.old key)
+    × IsStatus 204 o.response)
+    ⊎ ((o.new ≡ o.old) × (((o.old key ≡ None) × IsStatus 404 o.response)
+    ⊎ ((IsTrue (is_some (o.old key)) × (condition_on headers (o.old key) ≢ Met) × IsStatus 412 o.response)
+    ⊎ IsStatus 503 o.response)))
 
 -- The entries are keys of the map from a key on with their texts, in the byte order of the keys, each once and at most so many.
 -- Of the keys from that key on that have a text, one is left out only if so many come before it.
@@ -76,39 +76,39 @@ pub record IsPageOf (m : Map) (start : List ℕ) (limit : ℕ) (entries : List (
       ⊎ ((length entries ≡ limit) × ((e : List ℕ × List ℕ) → Has entries e → slice_cmp nat_cmp e.0 key ≡ Less))
 
 -- The first entries from a key on, at most so many, are shown as one object. That may fail instead. It changes nothing.
-abbrev pub ListsFromMap : Map → Entries FieldValue → List ℕ → ℕ → Response → Map → Type 0
-ListsFromMap m headers start limit response after =
-    (after ≡ m) × (((entries : List (List ℕ × List ℕ)) × IsPageOf m start limit entries
-    × Shows headers (Some (object_text entries)) response)
-    ⊎ IsStatus 503 response)
+abbrev pub ListsFromMap : Outcome Map → Entries FieldValue → List ℕ → ℕ → Type 0
+ListsFromMap o headers start limit =
+    (o.new ≡ o.old) × (((entries : List (List ℕ × List ℕ)) × IsPageOf o.old start limit entries
+    × Shows headers (Some (object_text entries)) o.response)
+    ⊎ IsStatus 503 o.response)
 
 -- A query shows the first entries from the key that it gives, at most as many as it asks for. It is refused if it asks for no
 -- limit that there is.
-abbrev pub ListsMap : Map → Entries FieldValue → List ℕ → Response → Map → Type 0
-ListsMap m headers query response after =
-    ((limit : ℕ) × AsksFor query limit × ListsFromMap m headers (start_of query) limit response after)
-    ⊎ ((after ≡ m) × ((((limit : ℕ) → AsksFor query limit → ⊥) × IsResponse 400 (problem_field ∷ []) limit_problem response)
-    ⊎ IsStatus 503 response))
+abbrev pub ListsMap : Outcome Map → Entries FieldValue → List ℕ → Type 0
+ListsMap o headers query =
+    ((limit : ℕ) × AsksFor query limit × ListsFromMap o headers (start_of query) limit)
+    ⊎ ((o.new ≡ o.old) × ((((limit : ℕ) → AsksFor query limit → ⊥) × IsResponse 400 (problem_field ∷ []) limit_problem o.response)
+    ⊎ IsStatus 503 o.response))
 
 -- the response to a request for the list of entries, by its method
-abbrev pub AnsweredListMap : Map → HttpRequest (List ℕ) → Response → Map → Type 0
-AnsweredListMap m request response after =
-    (IsRead (method_of request) × ListsMap m (headers_of request) (query_of request) response after)
-    ⊎ ((IsRead (method_of request) → ⊥) × (after ≡ m) × IsResponse 405 (allow_list_field ∷ []) [] response)
+abbrev pub AnsweredListMap : HttpRequest (List ℕ) → Outcome Map → Type 0
+AnsweredListMap request o =
+    (IsRead (method_of request) × ListsMap o (headers_of request) (query_of request))
+    ⊎ ((IsRead (method_of request) → ⊥) × (o.new ≡ o.old) × IsResponse 405 (allow_list_field ∷ []) [] o.response)
 
 -- the response to a request for an entry, by its method
-abbrev pub AnsweredAtMap : {V : Type 0} → Meaning V → (V → Tree) → Map → List ℕ → HttpRequest (List ℕ) → Response → Map → Type 0
-AnsweredAtMap means tree m key request response after =
-    (IsRead (method_of request) × ReadsMap m (headers_of request) key response after)
-    ⊎ (((method_of request ≡ put_method) × PutsMap means tree m (headers_of request) key (body_of request) response after)
-    ⊎ (((method_of request ≡ delete_method) × RemovesMap m (headers_of request) key response after)
-    ⊎ (IsOther (method_of request) × (after ≡ m) × IsResponse 405 (allow_field ∷ []) [] response)))
+abbrev pub AnsweredAtMap : {V : Type 0} → Codec V → List ℕ → HttpRequest (List ℕ) → Outcome Map → Type 0
+AnsweredAtMap of key request o =
+    (IsRead (method_of request) × ReadsMap o (headers_of request) key)
+    ⊎ (((method_of request ≡ put_method) × PutsMap of o (headers_of request) key (body_of request))
+    ⊎ (((method_of request ≡ delete_method) × RemovesMap o (headers_of request) key)
+    ⊎ (IsOther (method_of request) × (o.new ≡ o.old) × IsResponse 405 (allow_field ∷ []) [] o.response)))
 
--- the response to a request, and the map after it
-abbrev pub AnsweredMap : {V : Type 0} → Meaning V → (V → Tree) → Map → HttpRequest (List ℕ) → Response → Map → Type 0
-AnsweredMap means tree m request response after =
-    ((key : List ℕ) × IsEntry (path_of request) key × AnsweredAtMap means tree m key request response after)
-    ⊎ ((IsList (path_of request) × AnsweredListMap m request response after)
+-- the response to a request, from the map before it to the map after it
+abbrev pub AnsweredMap : {V : Type 0} → Codec V → Map → HttpRequest (List ℕ) → Response → Map → Type 0
+AnsweredMap of m request response after =
+    ((key : List ℕ) × IsEntry (path_of request) key × AnsweredAtMap of key request (outcome m response after))
+    ⊎ ((IsList (path_of request) × AnsweredListMap request (outcome m response after))
     ⊎ (((key : List ℕ) → IsEntry (path_of request) key → ⊥) × (IsList (path_of request) → ⊥) × (after ≡ m) × IsStatus 404 response))
 
 -- the rows of a database are the entries of the map

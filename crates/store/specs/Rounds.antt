@@ -2,11 +2,9 @@
 use Rattle.std.specs.Prelude.{◌≡◌, ◌⊎◌, Bool, true, false, if◌then◌else◌, List, ℕ, IsTrue}
 use Rattle.http.specs.declared.request.Request.{Request as HttpRequest}
 use Rattle.http_server.specs.declared.response.Response.{Response}
-use Rattle.miniserde.specs.Tree.{Tree}
-use Rattle.miniserde.specs.Meaning.{Meaning}
 use Rattle.sqlite.specs.Effect.{Database}
 use Rattle.sqlite.specs.State.{State, HasCleanDisk}
-use Rattle.store.specs.Answered.{IsInside, IsLost}
+use Rattle.store.specs.Answered.{Codec, Outcome, IsInside, IsLost}
 use Rattle.store.specs.Maps.{Map, AnsweredMap, IsMapOf, SeesMap, ServesMap}
 
 -- A round that began at the first map and has come to the second: nothing was put yet, or the connection is inside of a
@@ -30,11 +28,21 @@ abbrev pub IsBetween : Map → State → Bool → Type 0
 IsBetween m s true = ServesMap s m
 IsBetween m s false = IsOff m s
 
+-- what a round is to the connection, and whether it stands
+pub record RoundState : Type 1 where
+  pub connection : State
+  pub stands : Bool
+
+-- the state of a round whose fields are the arguments
+abbrev pub round_state : State → Bool → RoundState
+round_state connection stands = record { connection = connection; stands = stands }
+
 -- The response to a request, if the round still stands afterwards, is that of the map to which the round has come.
-abbrev pub AnsweredInRound : {V : Type 0} → Meaning V → (V → Tree) → State → Bool → HttpRequest (List ℕ) → Response → State → Bool → Type 0
-AnsweredInRound means tree old stood request response new stands = HasCleanDisk new → HasCleanDisk old
-    × ((begun m : Map) → InRound begun old stood m → (after : Map) × InRound begun new stands after
-    × (IsTrue stands → IsTrue stood × AnsweredMap means tree m request response after))
+abbrev pub AnsweredInRound : {V : Type 0} → Codec V → HttpRequest (List ℕ) → Outcome RoundState → Type 0
+AnsweredInRound of request o = HasCleanDisk o.new.connection → HasCleanDisk o.old.connection
+    × ((begun m : Map) → InRound begun o.old.connection o.old.stands m
+    → (after : Map) × InRound begun o.new.connection o.new.stands after
+    × (IsTrue o.new.stands → IsTrue o.old.stands × AnsweredMap of m request o.response after))
 
 -- The round is settled. If its answers stand, the map to which it has come is committed, on a connection that is open if the
 -- round changed the map, and else the map is the one from before the round.
@@ -44,9 +52,9 @@ SettlesRound old stood kept new stands = HasCleanDisk new → HasCleanDisk old
     → IsBetween (if kept then m else begun) new stands
     × (IsTrue kept → IsTrue stood × IsTrue stands × (IsTrue new.is_open ⊎ (m ≡ begun))))
 
--- the response to a call of a round is that of the map, if the round is committed
-abbrev pub AnsweredIf : {V : Type 0} → Meaning V → (V → Tree) → Bool → Map → HttpRequest (List ℕ) → Response → Map → Type 0
-AnsweredIf means tree kept m request response after = IsTrue kept → AnsweredMap means tree m request response after
+-- how a request is answered, if the round is committed
+abbrev pub AnsweredIf : {V : Type 0} → Codec V → Bool → (Map → HttpRequest (List ℕ) → Response → Map → Type 0)
+AnsweredIf of kept m request response after = IsTrue kept → AnsweredMap of m request response after
 
 -- the map after a round is the one to which its calls lead, if it is committed, and else the one from before
 abbrev pub LeavesMap : Map → Map → Bool → Map → Type 0

@@ -5,7 +5,8 @@ ghost use Rattle.miniserde.specs.declared.Error.TheVariants.{Invalid};
 ghost use Rattle.sqlite.specs.Held.{state};
 ghost use Rattle.store.specs.Answered.{entity_tag, shown_fields, etag_field, allow_field, problem_field, condition_on};
 ghost use Rattle.store.specs.Answered.{IsTextOf, MeansNoValue, IsProblem, Shows, IsStatus};
-ghost use Rattle.store.specs.Answered.{Reads, PutsAs, PutsValue, PutsOver, Puts, TakesRow, RemovesOver, Removes, Goes};
+ghost use Rattle.store.specs.Answered.{codec, outcome, IfMet, Reads, PutsAs, PutsValue, PutsOver, Puts};
+ghost use Rattle.store.specs.Answered.{TakesRow, RemovesOver, Removes, Goes};
 
 use crate::conditions::{Condition, allows_new, judge};
 use crate::explain::Explain;
@@ -124,7 +125,7 @@ pub fn read<S: Alter>(
 )
     requires { IsBlank response.old }
     ensures { Goes (state S.Store conn.old) (state S.Store conn.new)
-        (Reads (state S.Store conn.old) headers.now key.now response.new (state S.Store conn.new)) }
+        (Reads (outcome (state S.Store conn.old) response.new (state S.Store conn.new)) headers.now key.now) }
 {
     match texts::get(conn, key) {
         Ok(Some(body)) => show(alloc, headers, body.as_str(), response),
@@ -143,7 +144,7 @@ fn put_as<S: Alter>(
 )
     requires { IsBlank response.old }
     ensures { Goes (state S.Store conn.old) (state S.Store conn.new)
-        (PutsAs (state S.Store conn.old) key.now text.now status response.new (state S.Store conn.new)) }
+        (PutsAs (outcome (state S.Store conn.old) response.new (state S.Store conn.new)) key.now text.now status) }
 {
     match texts::put(conn, key, text) {
         Ok(_) => response.status = status,
@@ -154,7 +155,7 @@ fn put_as<S: Alter>(
 // Returns the canonical text of the value that a body means. Returns `Invalid` if it means none, and `Memory` if an
 // allocation fails.
 fn text_of<V: Stable + Lossless>(alloc: Global, body: &[u8]) -> miniserde::Result<String>
-    ensures ok { IfOk result (λ text. IsTextOf V.means V.tree body.now (string_bytes text)) }
+    ensures ok { IfOk result (λ text. IsTextOf (codec V.means V.tree) body.now (string_bytes text)) }
     ensures invalid { result ≡ Err Invalid → MeansNoValue V.means body.now }
 {
     let value: V = from_slice(alloc, body)?;
@@ -210,8 +211,8 @@ fn put_value<S: Alter, V: Stable + Lossless, E: Explain<V>>(
     response: &mut Response,
 )
     requires { IsBlank response.old }
-    ensures { Goes (state S.Store conn.old) (state S.Store conn.new) (PutsValue V.means V.tree
-        (state S.Store conn.old) key.now body.now status response.new (state S.Store conn.new)) }
+    ensures { Goes (state S.Store conn.old) (state S.Store conn.new) (PutsValue (codec V.means V.tree)
+        (outcome (state S.Store conn.old) response.new (state S.Store conn.new)) key.now body.now status) }
 {
     match text_of::<V>(alloc, body) {
         Ok(text) => put_as(conn, key, text.as_str(), status, response),
@@ -230,8 +231,9 @@ fn create<S: Alter, V: Stable + Lossless, E: Explain<V>>(
     response: &mut Response,
 )
     requires { IsBlank response.old }
-    ensures { Goes (state S.Store conn.old) (state S.Store conn.new) (PutsOver V.means V.tree
-        (state S.Store conn.old) headers.now key.now None body.now response.new (state S.Store conn.new)) }
+    ensures { Goes (state S.Store conn.old) (state S.Store conn.new) (IfMet (condition_on headers.now None)
+        (outcome (state S.Store conn.old) response.new (state S.Store conn.new)) (PutsOver (codec V.means V.tree)
+        (outcome (state S.Store conn.old) response.new (state S.Store conn.new)) key.now body.now None)) }
 {
     if allows_new(headers) {
         put_value::<S, V, E>(alloc, conn, key, body, StatusCode::CREATED, response);
@@ -251,8 +253,9 @@ fn replace<S: Alter, V: Stable + Lossless, E: Explain<V>>(
     response: &mut Response,
 )
     requires { IsBlank response.old }
-    ensures { Goes (state S.Store conn.old) (state S.Store conn.new) (PutsOver V.means V.tree
-        (state S.Store conn.old) headers.now key.now (Some before.now) body.now response.new (state S.Store conn.new)) }
+    ensures { Goes (state S.Store conn.old) (state S.Store conn.new) (IfMet (condition_on headers.now (Some before.now))
+        (outcome (state S.Store conn.old) response.new (state S.Store conn.new)) (PutsOver (codec V.means V.tree)
+        (outcome (state S.Store conn.old) response.new (state S.Store conn.new)) key.now body.now (Some before.now))) }
 {
     let Ok(condition) = judged(alloc, headers, before) else {
         response.status = StatusCode::SERVICE_UNAVAILABLE;
@@ -275,8 +278,8 @@ pub fn put<S: Alter, V: Stable + Lossless, E: Explain<V>>(
     response: &mut Response,
 )
     requires { IsBlank response.old }
-    ensures { Goes (state S.Store conn.old) (state S.Store conn.new) (Puts V.means V.tree
-        (state S.Store conn.old) headers.now key.now body.now response.new (state S.Store conn.new)) }
+    ensures { Goes (state S.Store conn.old) (state S.Store conn.new) (Puts (codec V.means V.tree)
+        (outcome (state S.Store conn.old) response.new (state S.Store conn.new)) headers.now key.now body.now) }
 {
     match texts::get(conn, key) {
         Ok(Some(before)) => {
@@ -291,7 +294,7 @@ pub fn put<S: Alter, V: Stable + Lossless, E: Explain<V>>(
 fn take<S: Alter>(conn: &mut Connection<S>, key: &str, response: &mut Response)
     requires { IsBlank response.old }
     ensures { Goes (state S.Store conn.old) (state S.Store conn.new)
-        (TakesRow (state S.Store conn.old) key.now response.new (state S.Store conn.new)) }
+        (TakesRow (outcome (state S.Store conn.old) response.new (state S.Store conn.new)) key.now) }
 {
     match texts::remove(conn, key) {
         Ok(_) => response.status = StatusCode::NO_CONTENT,
@@ -309,8 +312,8 @@ fn take_if<S: Alter>(
     response: &mut Response,
 )
     requires { IsBlank response.old }
-    ensures { Goes (state S.Store conn.old) (state S.Store conn.new) (RemovesOver (state S.Store conn.old)
-        headers.now key.now (Some before.now) response.new (state S.Store conn.new)) }
+    ensures { Goes (state S.Store conn.old) (state S.Store conn.new) (RemovesOver (outcome (state S.Store conn.old) response.new (state S.Store conn.new))
+        headers.now key.now (Some before.now)) }
 {
     let Ok(condition) = judged(alloc, headers, before) else {
         response.status = StatusCode::SERVICE_UNAVAILABLE;
@@ -333,7 +336,7 @@ pub fn remove<S: Alter>(
 )
     requires { IsBlank response.old }
     ensures { Goes (state S.Store conn.old) (state S.Store conn.new)
-        (Removes (state S.Store conn.old) headers.now key.now response.new (state S.Store conn.new)) }
+        (Removes (outcome (state S.Store conn.old) response.new (state S.Store conn.new)) headers.now key.now) }
 {
     match texts::get(conn, key) {
         Ok(Some(before)) => take_if(alloc, conn, key, before.as_str(), headers, response),

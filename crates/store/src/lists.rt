@@ -9,7 +9,7 @@ ghost use Rattle.rows.specs.Entries.{texts_of};
 ghost use Rattle.store.specs.Lists as spec;
 ghost use Rattle.store.specs.Lists.{IsLimit, member_text, object_text};
 ghost use Rattle.store.specs.Answered.{allow_list_field, problem_field, limit_problem, IsStatus, Shows};
-ghost use Rattle.store.specs.Answered.{ListsFrom, Lists, AnsweredList, Goes};
+ghost use Rattle.store.specs.Answered.{outcome, ListsFrom, Lists, AnsweredList, Goes};
 
 use crate::entries::{bad_request, show, unavailable};
 use crate::reason::details;
@@ -140,7 +140,7 @@ fn list_from<S: Alter>(
 )
     requires { IsBlank response.old }
     ensures { Goes (state S.Store conn.old) (state S.Store conn.new)
-        (ListsFrom (state S.Store conn.old) headers.now start.now limit response.new (state S.Store conn.new)) }
+        (ListsFrom (outcome (state S.Store conn.old) response.new (state S.Store conn.new)) headers.now start.now limit) }
 {
     match texts::range(alloc, conn, start, limit) {
         Ok(entries) => show_entries(alloc, entries.as_slice(), headers, response),
@@ -178,7 +178,7 @@ fn list<S: Alter>(
 )
     requires { IsBlank response.old }
     ensures { Goes (state S.Store conn.old) (state S.Store conn.new)
-        (Lists (state S.Store conn.old) headers.now query.now response.new (state S.Store conn.new)) }
+        (Lists (outcome (state S.Store conn.old) response.new (state S.Store conn.new)) headers.now query.now) }
 {
     let Ok(limit) = parameter(alloc, query, "limit") else {
         response.status = StatusCode::SERVICE_UNAVAILABLE;
@@ -213,7 +213,7 @@ pub fn answer_list<S: Alter>(
 ) -> Result<(), AllocError>
     requires { IsBlank response.old }
     ensures ok { OnOk result (Goes (state S.Store conn.old) (state S.Store conn.new)
-        (AnsweredList (state S.Store conn.old) request.now response.new (state S.Store conn.new))) }
+        (AnsweredList request.now (outcome (state S.Store conn.old) response.new (state S.Store conn.new)))) }
     ensures err { OnErr result (conn.new ≡ conn.old) }
 {
     if !is_read(request.method()) {

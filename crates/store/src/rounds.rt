@@ -3,6 +3,7 @@ ghost use Rattle.std.specs.Prelude.{◌≡◌, ◌⊎◌, true, if◌then◌else
 ghost use Rattle.http_server.specs.Response.{IsBlank};
 ghost use Rattle.sqlite.specs.Held.{state};
 ghost use Rattle.sqlite.specs.State.{HasCleanDisk};
+ghost use Rattle.store.specs.Answered.{codec, outcome};
 ghost use Rattle.store.specs.Maps.{Map, ReadsMap, PutsMap, RemovesMap, AnsweredListMap};
 ghost use Rattle.store.specs.Rounds.{IsUnderWay, IsOff, InRound, IsBetween};
 
@@ -76,7 +77,7 @@ fn read_in_round<S: Alter>(
     ensures { HasCleanDisk (state S.Store conn.new) → HasCleanDisk (state S.Store conn.old)
         × ((begun m : Map) → IsUnderWay begun (state S.Store conn.old) m → (after : Map)
         × InRound begun (state S.Store conn.new) result after
-        × (IsTrue result → ReadsMap m headers.now key.now response.new after)) }
+        × (IsTrue result → ReadsMap (outcome m response.new after) headers.now key.now)) }
 {
     let begun = texts::is_in_transaction(conn);
     read(alloc, conn, key, headers, response);
@@ -99,7 +100,8 @@ fn put_in_round<S: Alter, V: Stable + Lossless, E: Explain<V>>(
     ensures { HasCleanDisk (state S.Store conn.new) → HasCleanDisk (state S.Store conn.old)
         × ((begun m : Map) → IsUnderWay begun (state S.Store conn.old) m → (after : Map)
         × InRound begun (state S.Store conn.new) result after
-        × (IsTrue result → PutsMap V.means V.tree m headers.now key.now body.now response.new after)) }
+        × (IsTrue result → PutsMap (codec V.means V.tree) (outcome m response.new after)
+        headers.now key.now body.now)) }
 {
     if !begin_round(conn) {
         response.status = StatusCode::SERVICE_UNAVAILABLE;
@@ -121,7 +123,7 @@ fn remove_in_round<S: Alter>(
     ensures { HasCleanDisk (state S.Store conn.new) → HasCleanDisk (state S.Store conn.old)
         × ((begun m : Map) → IsUnderWay begun (state S.Store conn.old) m → (after : Map)
         × InRound begun (state S.Store conn.new) result after
-        × (IsTrue result → RemovesMap m headers.now key.now response.new after)) }
+        × (IsTrue result → RemovesMap (outcome m response.new after) headers.now key.now)) }
 {
     if !begin_round(conn) {
         response.status = StatusCode::SERVICE_UNAVAILABLE;
@@ -143,7 +145,7 @@ fn list_in_round<S: Alter>(
     ensures ok { IfOk result (λ stands. HasCleanDisk (state S.Store conn.new) → HasCleanDisk (state S.Store conn.old)
         × ((begun m : Map) → IsUnderWay begun (state S.Store conn.old) m → (after : Map)
         × InRound begun (state S.Store conn.new) stands after
-        × (IsTrue stands → AnsweredListMap m request.now response.new after))) }
+        × (IsTrue stands → AnsweredListMap request.now (outcome m response.new after)))) }
     ensures err { OnErr result (conn.new ≡ conn.old) }
 {
     let begun = texts::is_in_transaction(conn);
@@ -205,10 +207,11 @@ impl<S: Alter, V: Stable + Lossless, E: Explain<V>> RoundService<S, V, E> {
 
 impl<S: Alter, V: Stable + Lossless, E: Explain<V>> Settle for RoundService<S, V, E> {
     ghost use Rattle.sqlite.specs.Held.{state};
-    ghost use Rattle.store.specs.Rounds.{AnsweredInRound, SettlesRound};
+    ghost use Rattle.store.specs.Answered.{codec, outcome};
+    ghost use Rattle.store.specs.Rounds.{round_state, AnsweredInRound, SettlesRound};
 
-    ghost answers = { λ old request response new. AnsweredInRound V.means V.tree
-        (state S.Store old.0) old.1 request response (state S.Store new.0) new.1 };
+    ghost answers = { λ old request response new. AnsweredInRound (codec V.means V.tree) request
+        (outcome (round_state (state S.Store old.0) old.1) response (round_state (state S.Store new.0) new.1)) };
 
     ghost settles = { λ old kept new. SettlesRound (state S.Store old.0) old.1 kept (state S.Store new.0) new.1 };
 

@@ -60,10 +60,10 @@ impl<S: Alter, V: Stable + Lossless, E: Explain<V>> StoreService<S, V, E> {
 
 impl<S: Alter, V: Stable + Lossless, E: Explain<V>> Service for StoreService<S, V, E> {
     ghost use Rattle.sqlite.specs.Held.{state};
-    ghost use Rattle.store.specs.Answered.{Answered, Goes};
+    ghost use Rattle.store.specs.Answered.{codec, outcome, Answered, Goes};
 
     ghost answers = { λ old request response new. Goes (state S.Store old) (state S.Store new)
-        (Answered V.means V.tree (state S.Store old) request response (state S.Store new)) };
+        (Answered (codec V.means V.tree) request (outcome (state S.Store old) response (state S.Store new))) };
 
     fn call(
         &mut self,

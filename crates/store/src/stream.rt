@@ -4,6 +4,7 @@ ghost use Rattle.std.specs.Io.KnownBytes.{Appends, Consumes};
 ghost use Rattle.http_server.specs.History.{History, IsDone};
 ghost use Rattle.sqlite.specs.Held.{state};
 ghost use Rattle.sqlite.specs.State.{HasCleanDisk};
+ghost use Rattle.store.specs.Answered.{codec};
 ghost use Rattle.store.specs.Maps.{Map, ServesMap};
 ghost use Rattle.store.specs.Streams.{IsServedByMap};
 
@@ -34,7 +35,7 @@ pub fn serve_stream<S: Alter, V: Stable + Lossless, E: Explain<V>, R: Read, W: W
         → ServesMap (state S.Store service.old) m → (h : History) × (after : Map)
         × Consumes (R.remaining reader.old) (R.remaining reader.new) h.received
         × Appends (W.contents writer.old) (W.contents writer.new) h.sent
-        × IsServedByMap V.means V.tree config h m after × ServesMap (state S.Store service.new) after
+        × IsServedByMap (codec V.means V.tree) config h m after × ServesMap (state S.Store service.new) after
         × OnOk result (IsDone h) }
 {
     let mut connection = Connection::new(alloc, keys, config);

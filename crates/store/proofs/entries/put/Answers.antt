@@ -2,7 +2,7 @@
 use Rattle.std.proofs.Common.{inr, Some, None, Ok, refl, sym, ap, subst}
 use Rattle.sqlite.specs.Held.{state}
 use Rattle.rows.specs.Entries.{Holds, Keeps}
-use Rattle.store.specs.Answered.{IsCurrent, Puts}
+use Rattle.store.specs.Answered.{codec, outcome, IsCurrent, Puts}
 use Rattle.store.proofs.Steps.{goes_by, found, failed_keeps, put_over}
 use Rattle.store.proofs.entries.put.Goals as goal
 
@@ -12,7 +12,7 @@ returns-in-Ok-Some g c =
     let mid = state g.S.Store c.get.new.conn in
     let key = c.args.key.now in
     let rows = c.in-Ok-Some.ensures in
-    put_over old mid (state g.S.Store c.replace.new.conn) g.V.FromJson.means g.V.Serialize.tree c.args.headers.now key
+    put_over old mid (state g.S.Store c.replace.new.conn) (codec g.V.FromJson.means g.V.Serialize.tree) c.args.headers.now key
     c.args.body.now c.replace.new.response (Some c.as_str.result.now)
     (found old mid (IsCurrent old.now key (Some c.as_str.result.now))
     (record { clean = rows.clean; serving = rows.serving; live = rows.live; kept = rows.kept; same = rows.same })
@@ -25,7 +25,7 @@ returns-in-Ok-None g c =
     let mid = state g.S.Store c.get.new.conn in
     let key = c.args.key.now in
     let rows = c.in-Ok-None.ensures in
-    put_over old mid (state g.S.Store c.create.new.conn) g.V.FromJson.means g.V.Serialize.tree c.args.headers.now key
+    put_over old mid (state g.S.Store c.create.new.conn) (codec g.V.FromJson.means g.V.Serialize.tree) c.args.headers.now key
     c.args.body.now c.create.new.response None
     (found old mid (IsCurrent old.now key None)
     (record { clean = rows.clean; serving = rows.serving; live = rows.live; kept = rows.kept; same = rows.same })
@@ -37,6 +37,7 @@ returns-in-Err g c =
     let old = state g.S.Store c.args.conn.now in
     let new = state g.S.Store c.get.new.conn in
     let rows = c.in-Err.ensures in
-    goes_by old new (Keeps old new) (Puts g.V.FromJson.means g.V.Serialize.tree old c.args.headers.now c.args.key.now c.args.body.now _ new)
+    goes_by old new (Keeps old new)
+    (Puts (codec g.V.FromJson.means g.V.Serialize.tree) (outcome old _ new) c.args.headers.now c.args.key.now c.args.body.now)
     (λ kept. inr (kept, record { status = refl; headers = c.requires.headers; body = c.requires.body }))
     (failed_keeps old new (record { clean = rows.clean; serving = rows.serving; kept = rows.kept; aborts = rows.aborts }))

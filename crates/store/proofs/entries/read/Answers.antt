@@ -2,7 +2,7 @@
 use Rattle.std.proofs.Common.{inl, inr, Some, None, Ok, refl, sym, ap, subst}
 use Rattle.sqlite.specs.Held.{state}
 use Rattle.rows.specs.Entries.{Holds, Keeps}
-use Rattle.store.specs.Answered.{IsCurrent, Reads}
+use Rattle.store.specs.Answered.{outcome, IsCurrent, Reads}
 use Rattle.store.proofs.Steps.{goes_by, found, failed_keeps, read_found}
 use Rattle.store.proofs.entries.read.Goals as goal
 
@@ -35,6 +35,6 @@ returns-in-Err g c =
     let old = state g.S.Store c.args.conn.now in
     let new = state g.S.Store c.get.new.conn in
     let rows = c.in-Err.ensures in
-    goes_by old new (Keeps old new) (Reads old c.args.headers.now c.args.key.now _ new)
+    goes_by old new (Keeps old new) (Reads (outcome old _ new) c.args.headers.now c.args.key.now)
     (λ kept. (kept, inr (record { status = refl; headers = c.requires.headers; body = c.requires.body })))
     (failed_keeps old new (record { clean = rows.clean; serving = rows.serving; kept = rows.kept; aborts = rows.aborts }))

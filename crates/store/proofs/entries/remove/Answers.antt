@@ -2,7 +2,7 @@
 use Rattle.std.proofs.Common.{inr, Some, None, Ok, refl, sym, ap, subst}
 use Rattle.sqlite.specs.Held.{state}
 use Rattle.rows.specs.Entries.{Holds, Keeps}
-use Rattle.store.specs.Answered.{IsCurrent, RemovesOver, Removes}
+use Rattle.store.specs.Answered.{outcome, IsCurrent, RemovesOver, Removes}
 use Rattle.store.proofs.Steps.{goes_by, stays, keeps_self, found, failed_keeps, remove_over}
 use Rattle.store.proofs.entries.remove.Goals as goal
 
@@ -28,7 +28,7 @@ returns-in-Ok-None g c =
     (found old mid (IsCurrent old.now key None)
     (record { clean = rows.clean; serving = rows.serving; live = rows.live; kept = rows.kept; same = rows.same })
     (λ clean has. rows.none clean has (ap Ok c.in-Ok-None.field-0-is)))
-    (stays mid (RemovesOver mid c.args.headers.now key None _ mid)
+    (stays mid (RemovesOver (outcome mid _ mid) c.args.headers.now key None)
     (keeps_self mid, record { status = refl; headers = c.requires.headers; body = c.requires.body }))
 
 pub returns-in-Err : goal.returns-in-Err
@@ -36,6 +36,6 @@ returns-in-Err g c =
     let old = state g.S.Store c.args.conn.now in
     let new = state g.S.Store c.get.new.conn in
     let rows = c.in-Err.ensures in
-    goes_by old new (Keeps old new) (Removes old c.args.headers.now c.args.key.now _ new)
+    goes_by old new (Keeps old new) (Removes (outcome old _ new) c.args.headers.now c.args.key.now)
     (λ kept. inr (kept, record { status = refl; headers = c.requires.headers; body = c.requires.body }))
     (failed_keeps old new (record { clean = rows.clean; serving = rows.serving; kept = rows.kept; aborts = rows.aborts }))

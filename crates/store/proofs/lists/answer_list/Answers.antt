@@ -7,7 +7,7 @@ use Rattle.http_uri.specs.Uri.{uri_query}
 use Rattle.sqlite.specs.Held.{state}
 use Rattle.store.specs.Routes.{IsRead, method_of}
 use Rattle.store.specs.Lists.{query_of}
-use Rattle.store.specs.Answered.{Lists, AnsweredList}
+use Rattle.store.specs.Answered.{outcome, Lists, AnsweredList}
 use Rattle.store.proofs.Steps.{goes_by}
 use Rattle.store.proofs.lists.answer_list.Goals as goal
 
@@ -22,14 +22,14 @@ returns-clause-ok g c =
     let request = c.args.request.now in
     let response = c.list.new.response in
     let headers = c.headers.result.now in
+    let o = outcome old response new in
     let is : IsRead (method_of request) = subst IsRead c.method.ensures (c.is_read.ensures.0 c.if-not-is_read.false) in
     let query : c.unwrap_or-query.result.now ≡ query_of request =
     ap (λ (b : Bor (List ℕ)). b.now) c.unwrap_or-query.ensures ∙ now_or c.query.result _
     ∙ ap (λ (o : Option (List ℕ)). unwrap_or o []) (c.query.ensures.value ∙ ap uri_query c.uri.ensures) in
-    goes_by old new (Lists old headers c.unwrap_or-query.result.now response new) (AnsweredList old request response new)
+    goes_by old new (Lists o headers c.unwrap_or-query.result.now) (AnsweredList request o)
     (λ p. inl (
       is,
-      subst (λ h. Lists old h (query_of request) response new) c.headers.ensures
-          (subst (λ q. Lists old headers q response new) query p),
+      subst (λ h. Lists o h (query_of request)) c.headers.ensures (subst (λ q. Lists o headers q) query p),
     ))
     c.list.ensures

@@ -2,7 +2,7 @@
 use Rattle.std.proofs.Common.{inr, map, refl, sym, subst}
 use Rattle.sqlite.specs.Held.{state}
 use Rattle.rows.specs.Entries.{IsPage, Keeps, texts_of}
-use Rattle.store.specs.Answered.{ListsFrom}
+use Rattle.store.specs.Answered.{outcome, ListsFrom}
 use Rattle.store.proofs.Steps.{goes_by, found_in_store, failed_keeps, page_found}
 use Rattle.store.proofs.lists.list_from.Goals as goal
 
@@ -25,6 +25,6 @@ returns-in-Err g c =
     let old = state g.S.Store c.args.conn.now in
     let new = state g.S.Store c.range.new.conn in
     let rows = c.in-Err.ensures in
-    goes_by old new (Keeps old new) (ListsFrom old c.args.headers.now c.args.start.now c.args.limit _ new)
+    goes_by old new (Keeps old new) (ListsFrom (outcome old _ new) c.args.headers.now c.args.start.now c.args.limit)
     (λ kept. (kept, inr (record { status = refl; headers = c.requires.headers; body = c.requires.body })))
     (failed_keeps old new (record { clean = rows.clean; serving = rows.serving; kept = rows.kept; aborts = rows.aborts }))

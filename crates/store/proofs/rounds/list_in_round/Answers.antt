@@ -1,7 +1,7 @@
 -- A list changes nothing, and inside of a transaction the round stands if that goes on.
 use Rattle.std.proofs.Common.{◌≡◌, true, false, Some, None, inl, rules, ◌∙◌}
 use Rattle.sqlite.specs.Held.{state}
-use Rattle.store.specs.Answered.{AnsweredList}
+use Rattle.store.specs.Answered.{outcome, AnsweredList}
 use Rattle.store.specs.Maps.{AnsweredListMap}
 use Rattle.store.proofs.MapLemmas.{answered_list, list_same}
 use Rattle.store.proofs.RoundLemmas.{was_outside, was_inside, called}
@@ -34,6 +34,7 @@ returns-clause-ok g c clean =
       it.0,
       λ begun m way.
           let (base, s, is, sees) = was_inside begun m old way inside in
-          called begun base new (AnsweredList old request response new) (AnsweredListMap m request response) c.is_in_transaction.result is
+          called begun base new (AnsweredList request (outcome old response new)) (λ after. AnsweredListMap request (outcome m response after))
+          c.is_in_transaction.result is
           (it.1 (Some base) s) (answered_list old new m sees request response) c.is_in_transaction.ensures.value,
     )

@@ -1,7 +1,7 @@
 -- The transaction of the round was begun, or could not be, and the text was put inside of it.
 use Rattle.std.proofs.Common.{◌≡◌, true, Some, inr, refl, rules}
 use Rattle.sqlite.specs.Held.{state}
-use Rattle.store.specs.Answered.{Puts}
+use Rattle.store.specs.Answered.{codec, outcome, Puts}
 use Rattle.store.specs.Maps.{PutsMap}
 use Rattle.store.proofs.MapLemmas.{puts_map}
 use Rattle.store.proofs.RoundLemmas.{was_inside, called}
@@ -20,8 +20,7 @@ returns-then-not-begin_round g c clean =
 
 pub returns : goal.returns
 returns g c clean =
-    let means = g.V.FromJson.means in
-    let tree = g.V.Serialize.tree in
+    let of = codec g.V.FromJson.means g.V.Serialize.tree in
     let mid = state g.S.Store c.begin_round.new.conn in
     let new = state g.S.Store c.put.new.conn in
     let headers = c.args.headers.now in
@@ -35,7 +34,8 @@ returns g c clean =
           let on = begin.1 begun m way in
           let inside : mid.in_transaction ≡ true = on.1 (search rules) in
           let (base, s, is, sees) = was_inside begun m mid on.0 inside in
-          called begun base new (Puts means tree mid headers key body response new) (PutsMap means tree m headers key body response)
-          c.is_in_transaction.result is (it.1 (Some base) s) (puts_map mid new m sees means tree headers key body response)
+          called begun base new (Puts of (outcome mid response new) headers key body)
+          (λ after. PutsMap of (outcome m response after) headers key body)
+          c.is_in_transaction.result is (it.1 (Some base) s) (puts_map mid new m sees of headers key body response)
           c.is_in_transaction.ensures.value,
     )

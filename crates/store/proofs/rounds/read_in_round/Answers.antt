@@ -1,7 +1,7 @@
 -- A read changes nothing, and inside of a transaction the round stands if that goes on.
 use Rattle.std.proofs.Common.{◌≡◌, true, false, Some, None, inl, rules, ◌∙◌}
 use Rattle.sqlite.specs.Held.{state}
-use Rattle.store.specs.Answered.{Reads}
+use Rattle.store.specs.Answered.{outcome, Reads}
 use Rattle.store.specs.Maps.{ReadsMap}
 use Rattle.store.proofs.MapLemmas.{reads_map}
 use Rattle.store.proofs.RoundLemmas.{was_outside, was_inside, called}
@@ -36,6 +36,7 @@ returns g c clean =
       it.0,
       λ begun m way.
           let (base, s, is, sees) = was_inside begun m old way inside in
-          called begun base new (Reads old headers key response new) (ReadsMap m headers key response) c.is_in_transaction.result is
+          called begun base new (Reads (outcome old response new) headers key) (λ after. ReadsMap (outcome m response after) headers key)
+          c.is_in_transaction.result is
           (it.1 (Some base) s) (reads_map old new m sees headers key response) c.is_in_transaction.ensures.value,
     )

@@ -1,7 +1,7 @@
 -- The transaction of the round was begun, or could not be, and the row was removed inside of it.
 use Rattle.std.proofs.Common.{◌≡◌, true, Some, inr, refl, rules}
 use Rattle.sqlite.specs.Held.{state}
-use Rattle.store.specs.Answered.{Removes}
+use Rattle.store.specs.Answered.{outcome, Removes}
 use Rattle.store.specs.Maps.{RemovesMap}
 use Rattle.store.proofs.MapLemmas.{removes_map}
 use Rattle.store.proofs.RoundLemmas.{was_inside, called}
@@ -32,7 +32,8 @@ returns g c clean =
           let on = begin.1 begun m way in
           let inside : mid.in_transaction ≡ true = on.1 (search rules) in
           let (base, s, is, sees) = was_inside begun m mid on.0 inside in
-          called begun base new (Removes mid headers key response new) (RemovesMap m headers key response)
+          called begun base new (Removes (outcome mid response new) headers key)
+          (λ after. RemovesMap (outcome m response after) headers key)
           c.is_in_transaction.result is (it.1 (Some base) s) (removes_map mid new m sees headers key response)
           c.is_in_transaction.ensures.value,
     )

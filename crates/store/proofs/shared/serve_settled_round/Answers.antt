@@ -4,6 +4,7 @@ use Rattle.sqlite.specs.Held.{state}
 use Rattle.slab.specs.Slab.{get}
 use Rattle.sqlite.specs.State.{HasCleanDisk}
 use Rattle.turns.specs.Shared.{Turns}
+use Rattle.store.specs.Answered.{codec}
 use Rattle.store.specs.Maps.{Map}
 use Rattle.store.specs.Rounds.{IsBetween}
 use Rattle.store.proofs.Steps.{result_by}
@@ -12,8 +13,7 @@ use Rattle.store.proofs.shared.serve_settled_round.Goals as goal
 
 pub returns-clause-settled : goal.returns-clause-settled
 returns-clause-settled g c =
-    let means = g.V.FromJson.means in
-    let tree = g.V.Serialize.tree in
+    let of = codec g.V.FromJson.means g.V.Serialize.tree in
     let remaining = g.T.Read.remaining in
     let contents = g.T.Write.contents in
     let call = c.settled_round in
@@ -22,12 +22,12 @@ returns-clause-settled g c =
     let before = get c.args.peers.now in
     let after = get call.new.peers in
     result_by call.result
-    (λ kept. (turns : Turns) × Settled g.S.Store means tree remaining contents c.args.keys.now old new before after turns kept)
+    (λ kept. (turns : Turns) × Settled g.S.Store of remaining contents c.args.keys.now old new before after turns kept)
     (λ kept. HasCleanDisk (state g.S.Store new.0) → (m : Map) → IsBetween m (state g.S.Store old.0) old.1 → (turns : Turns) × (last : Map)
-    × SettledMap g.S.Store means tree remaining contents c.args.keys.now old new before after turns m last kept
+    × SettledMap g.S.Store of remaining contents c.args.keys.now old new before after turns m last kept
     × IsBetween last (state g.S.Store new.0) new.1
     × (IsTrue kept → IsTrue new.1 × (IsTrue (state g.S.Store new.0).is_open ⊎ (last ≡ m))))
     call.ensures.settled
     (λ kept it clean m ready.
-    let round = round_of_map g.S.Store means tree remaining contents c.args.keys.now old new before after it.0 kept it.1 clean m ready in
+    let round = round_of_map g.S.Store of remaining contents c.args.keys.now old new before after it.0 kept it.1 clean m ready in
     (it.0, round.0, round.1, round.2, round.3))

@@ -5,6 +5,7 @@ use Rattle.http_uri.specs.Uri.{uri_path}
 use Rattle.sqlite.specs.Held.{state}
 use Rattle.store.specs.Routes.{IsEntry, IsRead, path_of, method_of, headers_of, put_method, delete_method}
 use Rattle.store.specs.Lists.{IsList}
+use Rattle.store.specs.Answered.{codec, outcome}
 use Rattle.store.specs.Maps.{ReadsMap, PutsMap, RemovesMap, AnsweredListMap}
 use Rattle.store.proofs.RoundLemmas.{answered}
 use Rattle.store.proofs.rounds.RoundServiceSettle.call.Goals.{in-Read, in-Put, in-Delete}
@@ -40,8 +41,8 @@ returns-then-is_list-clause-ok g c =
     let path : c.path.result.now ≡ path_of request = c.path.ensures.value ∙ ap uri_path c.uri.ensures in
     let is : IsList (path_of request) = sym path ∙ c.is_list.ensures.0 c.if-is_list.true in
     rw (← c.self.view_is)
-    (answered g.V.FromJson.means g.V.Serialize.tree old (state g.S.Store call.new.conn) c.self.inside.stands c.in_ok-self-inside.field-0
-    request response (λ m after. AnsweredListMap m request response after) stood c.in_ok-self-inside.ensures.ok
+    (answered (codec g.V.FromJson.means g.V.Serialize.tree) old (state g.S.Store call.new.conn) c.self.inside.stands c.in_ok-self-inside.field-0
+    request response (λ m after. AnsweredListMap request (outcome m response after)) stood c.in_ok-self-inside.ensures.ok
     (λ m after lists. inr (inl (is, lists))))
 
 pub returns-clause-ok : goal.returns-clause-ok
@@ -49,8 +50,7 @@ returns-clause-ok g c =
     let old = state g.S.Store c.self.inside.conn in
     let stood : c.self.inside.stands ≡ true = search rules in
     let request = c.args.request.now in
-    let means = g.V.FromJson.means in
-    let tree = g.V.Serialize.tree in
+    let of = codec g.V.FromJson.means g.V.Serialize.tree in
     let key = c.as_str-key.result.now in
     let headers : c.headers-headers.result.now ≡ headers_of request = c.headers-headers.ensures in
     let path : c.path-2.result.now ≡ path_of request = c.path-2.ensures.value ∙ ap uri_path c.uri-2.ensures in
@@ -63,24 +63,24 @@ returns-clause-ok g c =
           let response = call.new.response in
           let is : IsRead (method_of request) = subst IsRead c.method.ensures (c.verb_of.ensures.read w.in-Read.is) in
           rw (w.self-is, w.response-is, ← c.self.view_is)
-          (answered means tree old (state g.S.Store call.new.conn) c.self.inside.stands call.result request response
-          (λ m after. ReadsMap m c.headers-headers.result.now key response after) stood call.ensures
-          (λ m after reads. inl (key, at, inl (is, subst (λ h. ReadsMap m h key response after) headers reads))))
+          (answered of old (state g.S.Store call.new.conn) c.self.inside.stands call.result request response
+          (λ m after. ReadsMap (outcome m response after) c.headers-headers.result.now key) stood call.ensures
+          (λ m after reads. inl (key, at, inl (is, subst (λ h. ReadsMap (outcome m response after) h key) headers reads))))
       | in-Put w ↦
           let call = w.put_in_round-self-inside in
           let response = call.new.response in
           let is : method_of request ≡ put_method = sym c.method.ensures ∙ c.verb_of.ensures.put w.in-Put.is in
           let body : w.as_slice-body.result.now ≡ body_of request = w.as_slice-body.ensures ∙ w.body.ensures in
           rw (w.self-is, w.response-is, ← c.self.view_is)
-          (answered means tree old (state g.S.Store call.new.conn) c.self.inside.stands call.result request response
-          (λ m after. PutsMap means tree m c.headers-headers.result.now key w.as_slice-body.result.now response after) stood call.ensures
+          (answered of old (state g.S.Store call.new.conn) c.self.inside.stands call.result request response
+          (λ m after. PutsMap of (outcome m response after) c.headers-headers.result.now key w.as_slice-body.result.now) stood call.ensures
           (λ m after puts. inl (
             key,
             at,
             inr (inl (
               is,
-              subst (λ h. PutsMap means tree m h key (body_of request) response after) headers
-                  (subst (λ b. PutsMap means tree m c.headers-headers.result.now key b response after) body puts),
+              subst (λ h. PutsMap of (outcome m response after) h key (body_of request)) headers
+                  (subst (λ b. PutsMap of (outcome m response after) c.headers-headers.result.now key b) body puts),
             )),
           )))
       | in-Delete w ↦
@@ -88,7 +88,7 @@ returns-clause-ok g c =
           let response = call.new.response in
           let is : method_of request ≡ delete_method = sym c.method.ensures ∙ c.verb_of.ensures.delete w.in-Delete.is in
           rw (w.self-is, w.response-is, ← c.self.view_is)
-          (answered means tree old (state g.S.Store call.new.conn) c.self.inside.stands call.result request response
-          (λ m after. RemovesMap m c.headers-headers.result.now key response after) stood call.ensures
-          (λ m after removes. inl (key, at, inr (inr (inl (is, subst (λ h. RemovesMap m h key response after) headers removes))))))
+          (answered of old (state g.S.Store call.new.conn) c.self.inside.stands call.result request response
+          (λ m after. RemovesMap (outcome m response after) c.headers-headers.result.now key) stood call.ensures
+          (λ m after removes. inl (key, at, inr (inr (inl (is, subst (λ h. RemovesMap (outcome m response after) h key) headers removes))))))
     ]
