@@ -141,7 +141,8 @@ module _ {V : Type 0} (of : Codec V) (key : List ℕ) where
   at_step m next c other entry (inr (inr (inr (is, same, sent)))) =
       inl (same_at m next same, λ change. no_success 405 c.1 sent.status quiet_405 change.1)
 
-  from_step : (m next : Map) (c : Call) (start : List ℕ) (limit : ℕ) → ListsFromMap (outcome m c.1 next) (headers_of c.0) start limit → Step m c next
+  from_step : (m next : Map) (c : Call) (start : List ℕ) (limit : ℕ)
+      → ListsFromMap (outcome m c.1 next) (headers_of c.0) start limit → Step m c next
   from_step m next c start limit (same, inl (entries, page, shown)) =
       inl (same_at m next same, λ change. shown_quiet (headers_of c.0) (Some (object_text entries)) c.1 shown change.1)
   from_step m next c start limit (same, inr failed) =

@@ -112,7 +112,8 @@ module _ (old new : State) (m : Map) (sees : SeesMap old m) where
         (m, inr (refl, inr (inl (refl, unmet, status))), kept_sees kept)
     removes_at (Some text) (inr (kept, inr failed)) = (m, inr (refl, inr (inr failed)), kept_sees kept)
 
-    pub removes_map : Removes (outcome old response new) headers key → Leads new (λ after. RemovesMap (outcome m response after) headers key)
+    pub removes_map : Removes (outcome old response new) headers key
+        → Leads new (λ after. RemovesMap (outcome m response after) headers key)
     removes_map (inl (live, current, is, removes)) =
         let it = removes_at current removes in
         (it.0, subst (λ o. At o it.0) (sym (current_at key current live is)) it.1, it.2)
@@ -142,7 +143,8 @@ module _ (old new : State) (m : Map) (sees : SeesMap old m) where
         (it.0, inl (limit, asks, it.1), it.2)
     lists_map (inr (kept, why)) = (m, inr (refl, why), kept_sees kept)
 
-    pub answered_list : AnsweredList request (outcome old response new) → Leads new (λ after. AnsweredListMap request (outcome m response after))
+    pub answered_list : AnsweredList request (outcome old response new)
+        → Leads new (λ after. AnsweredListMap request (outcome m response after))
     answered_list (inl (is, lists)) =
         let it = lists_map lists in
         (it.0, inl (is, it.1), it.2)
@@ -177,7 +179,8 @@ module _ (old new : State) (m : Map) (sees : SeesMap old m) where
       puts_map (inr (kept, failed)) = (m, inr (refl, inr failed), kept_sees kept)
 
     answered_at : (key : List ℕ) (request : HttpRequest (List ℕ)) (response : Response)
-        → AnsweredAt of key request (outcome old response new) → Leads new (λ after. AnsweredAtMap of key request (outcome m response after))
+        → AnsweredAt of key request (outcome old response new)
+        → Leads new (λ after. AnsweredAtMap of key request (outcome m response after))
     answered_at key request response (inl (is, reads)) =
         let it = reads_map (headers_of request) key response reads in
         (it.0, inl (is, it.1), it.2)

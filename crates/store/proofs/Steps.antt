@@ -188,7 +188,8 @@ module _ (a b : State) where
       → Stays a b (Found (IsPage a.now start limit entries)) → Shows headers (Some (object_text entries)) response ⊎ IsStatus 503 response
       → Goes a b (ListsFrom (outcome a response b) headers start limit)
   page_found headers start limit entries response query shown =
-      then a b b _ (start ≡ start) (ListsFrom (outcome a response b) headers start limit) query (stays b (start ≡ start) refl) (λ it _. by it shown)
+      then a b b _ (start ≡ start) (ListsFrom (outcome a response b) headers start limit) query (stays b (start ≡ start) refl)
+      (λ it _. by it shown)
     where
       by : Found (IsPage a.now start limit entries) → Shows headers (Some (object_text entries)) response ⊎ IsStatus 503 response
           → ListsFrom (outcome a response b) headers start limit

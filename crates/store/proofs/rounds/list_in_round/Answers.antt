@@ -34,7 +34,8 @@ returns-clause-ok g c clean =
       it.0,
       λ begun m way.
           let (base, s, is, sees) = was_inside begun m old way inside in
-          called begun base new (AnsweredList request (outcome old response new)) (λ after. AnsweredListMap request (outcome m response after))
+          called begun base new (AnsweredList request (outcome old response new))
+          (λ after. AnsweredListMap request (outcome m response after))
           c.is_in_transaction.result is
           (it.1 (Some base) s) (answered_list old new m sees request response) c.is_in_transaction.ensures.value,
     )

@@ -41,8 +41,8 @@ returns-then-is_list-clause-ok g c =
     let path : c.path.result.now ≡ path_of request = c.path.ensures.value ∙ ap uri_path c.uri.ensures in
     let is : IsList (path_of request) = sym path ∙ c.is_list.ensures.0 c.if-is_list.true in
     rw (← c.self.view_is)
-    (answered (codec g.V.FromJson.means g.V.Serialize.tree) old (state g.S.Store call.new.conn) c.self.inside.stands c.in_ok-self-inside.field-0
-    request response (λ m after. AnsweredListMap request (outcome m response after)) stood c.in_ok-self-inside.ensures.ok
+    (answered (codec g.V.FromJson.means g.V.Serialize.tree) old (state g.S.Store call.new.conn) c.self.inside.stands
+    c.in_ok-self-inside.field-0 request response (λ m after. AnsweredListMap request (outcome m response after)) stood c.in_ok-self-inside.ensures.ok
     (λ m after lists. inr (inl (is, lists))))
 
 pub returns-clause-ok : goal.returns-clause-ok
@@ -90,5 +90,9 @@ returns-clause-ok g c =
           rw (w.self-is, w.response-is, ← c.self.view_is)
           (answered of old (state g.S.Store call.new.conn) c.self.inside.stands call.result request response
           (λ m after. RemovesMap (outcome m response after) c.headers-headers.result.now key) stood call.ensures
-          (λ m after removes. inl (key, at, inr (inr (inl (is, subst (λ h. RemovesMap (outcome m response after) h key) headers removes))))))
+          (λ m after removes. inl (
+            key,
+            at,
+            inr (inr (inl (is, subst (λ h. RemovesMap (outcome m response after) h key) headers removes))),
+          )))
     ]
