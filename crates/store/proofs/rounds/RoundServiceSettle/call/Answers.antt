@@ -42,7 +42,8 @@ returns-then-is_list-clause-ok g c =
     let is : IsList (path_of request) = sym path ∙ c.is_list.ensures.0 c.if-is_list.true in
     rw (← c.self.view_is)
     (answered (codec g.V.FromJson.means g.V.Serialize.tree) old (state g.S.Store call.new.conn) c.self.inside.stands
-    c.in_ok-self-inside.field-0 request response (λ m after. AnsweredListMap request (outcome m response after)) stood c.in_ok-self-inside.ensures.ok
+    c.in_ok-self-inside.field-0 request response (λ m after. AnsweredListMap request (outcome m response after))
+    stood c.in_ok-self-inside.ensures.ok
     (λ m after lists. inr (inl (is, lists))))
 
 pub returns-clause-ok : goal.returns-clause-ok
