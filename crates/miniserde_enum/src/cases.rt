@@ -1,8 +1,7 @@
 //! Reads the variants of an enum by their names.
-ghost use Rattle.std.specs.Prelude.{◌≡◌, None, Err, IfOk, map, option_map};
+ghost use Rattle.std.specs.Prelude.{◌≡◌, None, map, option_map};
 ghost use Rattle.miniserde_text.specs.Lexer.{event_of_token};
-ghost use Rattle.miniserde_model.specs.declared.error.Error.{Error};
-ghost use Rattle.miniserde_read.specs.Rest.{GivesAt, GivesNoneAt};
+ghost use Rattle.miniserde_read.specs.Calls.{Reads};
 ghost use Rattle.miniserde_read.specs.Events.{EventInRange};
 ghost use Rattle.miniserde_enum.specs.Cases.{with_data};
 ghost use Rattle.miniserde_enum.specs.CasesMeaning.{CasesMeaning, no_cases, unit_and, data_and};
@@ -39,13 +38,8 @@ pub trait Cases {
     ) -> Result<Self::Values>
         requires going { source.old.refused ≡ None }
         requires event { EventInRange (event_of_token token source.old.scratch) }
-        ensures going { IfOk result (λ _. source.new.refused ≡ None) }
-        ensures ok { IfOk result (λ v.
-            GivesAt (with_data (meaning.content_by_name (map (λ n. n.now) names.now) name.now))
-            (event_of_token token.entry source.old.scratch) source.old.rest source.new.rest (meaning.content v)) }
-        ensures invalid { result ≡ Err Error.Invalid
-            → GivesNoneAt (with_data (meaning.content_by_name (map (λ n. n.now) names.now) name.now))
-            (event_of_token token.entry source.old.scratch) source.old.rest };
+        ensures { Reads (with_data (meaning.content_by_name (map (λ n. n.now) names.now) name.now)) meaning.content
+            (event_of_token token.entry source.old.scratch) source.old result source.new };
 }
 
 /// The end of a chain of variants.

@@ -1,12 +1,11 @@
 //! Reads and writes data whose members are in one object with the tag.
-ghost use Rattle.std.specs.Prelude.{◌≡◌, ◌++◌, ◌&&◌, Bool, true, List, Option, None, Err, IfOk, OnOk, OnErr, IsErrOf, map, ⊤};
+ghost use Rattle.std.specs.Prelude.{◌≡◌, ◌++◌, ◌&&◌, Bool, true, List, Option, None, OnOk, OnErr, IsErrOf, map, ⊤};
 ghost use Rattle.miniserde_text.specs.Lexer.{event_of_token};
 ghost use Rattle.miniserde_model.specs.Tree.{Tree, members};
 ghost use Rattle.miniserde_model.specs.InRange.{MembersInRange};
-ghost use Rattle.miniserde_model.specs.declared.error.Error.{Error};
 ghost use Rattle.miniserde_model.specs.declared.error.Error.TheVariants.{Memory};
 ghost use Rattle.miniserde_read.specs.types.Objects.{Name};
-ghost use Rattle.miniserde_read.specs.Rest.{GivesAt, GivesNoneAt};
+ghost use Rattle.miniserde_read.specs.Calls.{Reads};
 ghost use Rattle.miniserde_read.specs.Events.{EventInRange};
 ghost use Rattle.miniserde_record.specs.Fields.{count_named};
 ghost use Rattle.miniserde_record.specs.InOrder.{KeepsTreesNormal};
@@ -37,11 +36,8 @@ pub trait Inside: Ranged + Serialize + FromJson {
     fn read_inside<'a, E: HasTag>(token: Event<'a>, source: &mut Source<'a>) -> Result<Self>
         requires going { source.old.refused ≡ None }
         requires event { EventInRange (event_of_token token source.old.scratch) }
-        ensures going { IfOk result (λ _. source.new.refused ≡ None) }
-        ensures ok { IfOk result (λ v. GivesAt (inside_of E.tag Self.means.from_tree)
-            (event_of_token token.entry source.old.scratch) source.old.rest source.new.rest (Self.means.content v)) }
-        ensures invalid { result ≡ Err Error.Invalid → GivesNoneAt (inside_of E.tag Self.means.from_tree)
-            (event_of_token token.entry source.old.scratch) source.old.rest };
+        ensures { Reads (inside_of E.tag Self.means.from_tree) Self.means.content
+            (event_of_token token.entry source.old.scratch) source.old result source.new };
 
     /// Appends the members of the struct, without brackets. A comma stands before each member that is not the first of
     /// its object. Returns `Memory` if the writer fails.
@@ -96,13 +92,8 @@ pub trait InsideCases {
     ) -> Result<Self::Values>
         requires going { source.old.refused ≡ None }
         requires event { EventInRange (event_of_token token source.old.scratch) }
-        ensures going { IfOk result (λ _. source.new.refused ≡ None) }
-        ensures ok { IfOk result (λ v.
-            GivesAt (inside_of E.tag (with_data (meaning.content_by_name (map (λ n. n.now) names.now) name.now)))
-            (event_of_token token.entry source.old.scratch) source.old.rest source.new.rest (meaning.content v)) }
-        ensures invalid { result ≡ Err Error.Invalid
-            → GivesNoneAt (inside_of E.tag (with_data (meaning.content_by_name (map (λ n. n.now) names.now) name.now)))
-            (event_of_token token.entry source.old.scratch) source.old.rest };
+        ensures { Reads (inside_of E.tag (with_data (meaning.content_by_name (map (λ n. n.now) names.now) name.now)))
+            meaning.content (event_of_token token.entry source.old.scratch) source.old result source.new };
 
     /// Does nothing. It promises that internal tagging fits if no field has the name of the tag.
     fn fit()

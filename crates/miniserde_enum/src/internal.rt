@@ -1,10 +1,10 @@
 //! Reads internally tagged enums: objects in which one member, the tag, names the variant.
 //! An `Event` is a token that begins a value, a `Step` an event of a value.
-ghost use Rattle.std.specs.Prelude.{◌≡◌, true, None, Err, IfOk, length};
+ghost use Rattle.std.specs.Prelude.{◌≡◌, true, None, Err, length};
 ghost use Rattle.miniserde_text.specs.Lexer.{event_of_token};
 ghost use Rattle.miniserde_model.specs.Step as step;
 ghost use Rattle.miniserde_model.specs.declared.error.Error.{Error};
-ghost use Rattle.miniserde_read.specs.Rest.{GivesAt, GivesNoneAt};
+ghost use Rattle.miniserde_read.specs.Calls.{Reads};
 ghost use Rattle.miniserde_read.specs.Events.{EventInRange};
 ghost use Rattle.miniserde_enum.specs.Tagging.{internal};
 ghost use Rattle.miniserde_enum.specs.CasesMeaning.{tagged_content};
@@ -62,12 +62,8 @@ pub fn read_tagged<'a, E: DataEnum + HasTag, C: InsideCases<Values = E::Values>>
 ) -> Result<E>
     requires going { source.old.refused ≡ None }
     requires event { EventInRange (event_of_token token source.old.scratch) }
-    ensures going { IfOk result (λ _. source.new.refused ≡ None) }
-    ensures ok { IfOk result (λ v. GivesAt (tagged_content C.meaning E.tag E.names)
-        (event_of_token token.entry source.old.scratch) source.old.rest source.new.rest
-        (C.meaning.content (E.values v))) }
-    ensures invalid { result ≡ Err Error.Invalid → GivesNoneAt (tagged_content C.meaning E.tag E.names)
-        (event_of_token token.entry source.old.scratch) source.old.rest }
+    ensures reads { Reads (tagged_content C.meaning E.tag E.names) (λ v. C.meaning.content (E.values v))
+        (event_of_token token.entry source.old.scratch) source.old result source.new }
     ensures memory { result ≡ Err Error.Memory → event_of_token token.entry source.old.scratch ≡ step.map }
 {
     let Event::MapStart = token else {

@@ -4,7 +4,7 @@ ghost use Rattle.std.specs.Prelude.{◌≡◌, None, Err, IfOk, map};
 ghost use Rattle.miniserde_text.specs.Lexer.{event_of_token, text_of};
 ghost use Rattle.miniserde_model.specs.Step as step;
 ghost use Rattle.miniserde_model.specs.declared.error.Error.{Error};
-ghost use Rattle.miniserde_read.specs.Rest.{GivesAt, GivesNoneAt};
+ghost use Rattle.miniserde_read.specs.Calls.{Reads};
 ghost use Rattle.miniserde_read.specs.Events.{EventInRange};
 ghost use Rattle.miniserde_read.specs.Due.{ReadsDue, RejectsDue};
 ghost use Rattle.miniserde_enum.specs.Cases.{with_data};
@@ -71,12 +71,8 @@ pub fn read_enum<'a, E: DataEnum, C: Cases<Values = E::Values>>(
 ) -> Result<E>
     requires going { source.old.refused ≡ None }
     requires event { EventInRange (event_of_token token source.old.scratch) }
-    ensures going { IfOk result (λ _. source.new.refused ≡ None) }
-    ensures ok { IfOk result (λ v. GivesAt (enum_content C.meaning E.names)
-        (event_of_token token.entry source.old.scratch) source.old.rest source.new.rest
-        (C.meaning.content (E.values v))) }
-    ensures invalid { result ≡ Err Error.Invalid → GivesNoneAt (enum_content C.meaning E.names)
-        (event_of_token token.entry source.old.scratch) source.old.rest }
+    ensures reads { Reads (enum_content C.meaning E.names) (λ v. C.meaning.content (E.values v))
+        (event_of_token token.entry source.old.scratch) source.old result source.new }
     ensures memory { result ≡ Err Error.Memory → event_of_token token.entry source.old.scratch ≡ step.map }
 {
     match token {

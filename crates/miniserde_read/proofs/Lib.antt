@@ -12,6 +12,7 @@ pub mod Lists
 pub mod Maps
 pub mod Accepted
 pub mod Objects
+pub mod Calls
 pub mod Same
 pub mod Skips
 pub mod Steps

@@ -1,3 +1,4 @@
+pub mod Calls
 pub mod Due
 pub mod Escaped
 pub mod Items

@@ -2,7 +2,7 @@
 ghost use Rattle.std.specs.Prelude.{◌≡◌, Bool, List, [], ◌∷◌, None, Ok, Err, IfOk};
 ghost use Rattle.miniserde_text.specs.Lexer.{event_of_token};
 ghost use Rattle.miniserde_model.specs.declared.error.Error.{Error};
-ghost use Rattle.miniserde_read.specs.Rest.{GivesAt, GivesNoneAt};
+ghost use Rattle.miniserde_read.specs.Calls.{Reads};
 ghost use Rattle.miniserde_read.specs.Events.{EventInRange};
 ghost use Rattle.miniserde_read.specs.Items.{ItemsMeaning, no_items, item_and, ItemsGiveAt, ItemsGiveNoneAt};
 ghost use Rattle.miniserde_read.specs.Lacking.{ItemsLack, TupleLacks};
@@ -88,11 +88,8 @@ impl<T: FromJson, R: Items> Items for Item<T, R> {
 pub fn read_tuple<'a, I: Items>(token: Event<'a>, source: &mut Source<'a>) -> Result<I::Values>
     requires going { source.old.refused ≡ None }
     requires event { EventInRange (event_of_token token source.old.scratch) }
-    ensures going { IfOk result (λ _. source.new.refused ≡ None) }
-    ensures ok { IfOk result (λ v. GivesAt (tuple_of I.meaning.from_trees) (event_of_token token.entry source.old.scratch)
-        source.old.rest source.new.rest (I.meaning.content v)) }
-    ensures invalid { result ≡ Err Error.Invalid
-        → GivesNoneAt (tuple_of I.meaning.from_trees) (event_of_token token.entry source.old.scratch) source.old.rest }
+    ensures reads { Reads (tuple_of I.meaning.from_trees) I.meaning.content
+        (event_of_token token.entry source.old.scratch) source.old result source.new }
     ensures memory { result ≡ Err Error.Memory
         → TupleLacks I.infallible (event_of_token token.entry source.old.scratch) source.old source.new }
 {

@@ -4,7 +4,7 @@ ghost use Rattle.std.specs.Prelude.{◌≡◌, ◌↔◌, Bool, true, Some, None
 ghost use Rattle.miniserde_text.specs.Lexer.{event_of_token};
 ghost use Rattle.miniserde_model.specs.declared.error.Error.{Error};
 ghost use Rattle.miniserde_read.specs.Meaning.{Meaning};
-ghost use Rattle.miniserde_read.specs.Rest.{GivesAt, GivesNoneAt};
+ghost use Rattle.miniserde_read.specs.Calls.{Reads};
 ghost use Rattle.miniserde_read.specs.Events.{event_of, EventInRange, IsStringEvent, on_leaf};
 ghost use Rattle.miniserde_read.specs.Newtypes.{checked_meaning, parsed_of, SameMeaning};
 
@@ -51,12 +51,9 @@ pub trait Checked: Sized + Drop {
 pub fn read_checked<'a, N: Checked>(token: Event<'a>, source: &mut Source<'a>) -> Result<N>
     requires going { source.old.refused ≡ None }
     requires event { EventInRange (event_of_token token source.old.scratch) }
-    ensures going { IfOk result (λ _. source.new.refused ≡ None) }
-    ensures ok { IfOk result (λ v. GivesAt (checked_meaning N.means N.accepts N.inner).from_tree
-        (event_of_token token.entry source.old.scratch) source.old.rest source.new.rest
-        ((checked_meaning N.means N.accepts N.inner).content v)) }
-    ensures invalid { result ≡ Err Error.Invalid → GivesNoneAt (checked_meaning N.means N.accepts N.inner).from_tree
-        (event_of_token token.entry source.old.scratch) source.old.rest }
+    ensures reads { Reads (checked_meaning N.means N.accepts N.inner).from_tree
+        (checked_meaning N.means N.accepts N.inner).content
+        (event_of_token token.entry source.old.scratch) source.old result source.new }
     ensures memory { result ≡ Err Error.Memory
         → N.Inner.lacking (event_of_token token.entry source.old.scratch) source.old source.new }
     ensures infallible { N.Inner.read_infallible ≡ true → IfErr result (λ e. e ≡ Error.Invalid) }

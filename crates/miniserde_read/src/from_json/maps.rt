@@ -1,10 +1,9 @@
 //! Reads `BTreeMap` and `HashMap` from objects.
-ghost use Rattle.std.specs.Prelude.{◌≡◌, [], List, None, Some, Ok, Err, IfOk, OnErr, IsErrOf};
+ghost use Rattle.std.specs.Prelude.{◌≡◌, [], List, None, Some, Ok, IfOk, OnErr, IsErrOf};
 ghost use Rattle.miniserde_text.specs.Lexer.{event_of_token};
-ghost use Rattle.miniserde_model.specs.declared.error.Error.{Error};
 ghost use Rattle.miniserde_model.specs.declared.error.Error.TheVariants.{Memory};
 ghost use Rattle.miniserde_read.specs.Meanings.{map_meaning};
-ghost use Rattle.miniserde_read.specs.Rest.{GivesAt, GivesNoneAt};
+ghost use Rattle.miniserde_read.specs.Calls.{Reads};
 ghost use Rattle.miniserde_read.specs.Events.{EventInRange};
 ghost use Rattle.miniserde_read.specs.types.Maps.{key_meaning, map_content, with_entry};
 
@@ -89,14 +88,9 @@ fn read_table<'a, V: FromJson, M: Table<Value = V>>(
 ) -> Result<M>
     requires going { source.old.refused ≡ None }
     requires event { EventInRange (event_of_token token source.old.scratch) }
-    ensures going { IfOk result (λ _. source.new.refused ≡ None) }
-    ensures ok { IfOk result (λ v.
-        GivesAt (map_meaning (key_meaning M.Key.read M.Key.code M.Key.content) V.means M.entries).from_tree
-        (event_of_token token.entry source.old.scratch) source.old.rest source.new.rest
-        ((map_meaning (key_meaning M.Key.read M.Key.code M.Key.content) V.means M.entries).content v)) }
-    ensures invalid { result ≡ Err Error.Invalid
-        → GivesNoneAt (map_meaning (key_meaning M.Key.read M.Key.code M.Key.content) V.means M.entries).from_tree
-        (event_of_token token.entry source.old.scratch) source.old.rest }
+    ensures { Reads (map_meaning (key_meaning M.Key.read M.Key.code M.Key.content) V.means M.entries).from_tree
+        (map_meaning (key_meaning M.Key.read M.Key.code M.Key.content) V.means M.entries).content
+        (event_of_token token.entry source.old.scratch) source.old result source.new }
 {
     let Event::MapStart = token else {
         return Err(Error::Invalid);

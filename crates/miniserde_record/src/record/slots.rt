@@ -4,7 +4,7 @@ ghost use Rattle.std.specs.Prelude.{◌≡◌, ◌&&◌, Bool, true, false, None
 ghost use Rattle.miniserde_text.specs.Lexer.{event_of_token};
 ghost use Rattle.miniserde_model.specs.Step as step;
 ghost use Rattle.miniserde_model.specs.declared.error.Error.{Error};
-ghost use Rattle.miniserde_read.specs.Rest.{GivesAt, GivesNoneAt};
+ghost use Rattle.miniserde_read.specs.Calls.{Reads};
 ghost use Rattle.miniserde_read.specs.Events.{EventInRange};
 ghost use Rattle.miniserde_record.specs.FieldsMeaning.{FieldsMeaning, no_fields, field_and, struct_meaning};
 ghost use Rattle.miniserde_read.specs.Due.{ReadsDue, RejectsDue};
@@ -224,12 +224,9 @@ pub fn read_record<'a, S: Record, F: Slots<Values = S::Values>>(
 ) -> Result<S>
     requires going { source.old.refused ≡ None }
     requires event { EventInRange (event_of_token token source.old.scratch) }
-    ensures going { IfOk result (λ _. source.new.refused ≡ None) }
-    ensures ok { IfOk result (λ v. GivesAt (struct_meaning F.meaning S.names S.values).from_tree
-        (event_of_token token.entry source.old.scratch) source.old.rest source.new.rest
-        ((struct_meaning F.meaning S.names S.values).content v)) }
-    ensures invalid { result ≡ Err Error.Invalid → GivesNoneAt (struct_meaning F.meaning S.names S.values).from_tree
-        (event_of_token token.entry source.old.scratch) source.old.rest }
+    ensures reads { Reads (struct_meaning F.meaning S.names S.values).from_tree
+        (struct_meaning F.meaning S.names S.values).content
+        (event_of_token token.entry source.old.scratch) source.old result source.new }
     ensures memory { result ≡ Err Error.Memory → event_of_token token.entry source.old.scratch ≡ step.map }
 {
     let Event::MapStart = token else {

@@ -4,7 +4,7 @@ ghost use Rattle.std.specs.Prelude.{option_map, string_bytes};
 ghost use Rattle.miniserde_model.specs.Lexing.{Follows};
 ghost use Rattle.miniserde_model.specs.declared.error.Error.{Error};
 ghost use Rattle.miniserde_text.specs.Lexer.{event_of_token};
-ghost use Rattle.miniserde_read.specs.Rest.{GivesAt, GivesNoneAt};
+ghost use Rattle.miniserde_read.specs.Calls.{Reads};
 ghost use Rattle.miniserde_read.specs.Events.{EventInRange};
 ghost use Rattle.miniserde_value.specs.Builders.{hole_in};
 ghost use Rattle.miniserde_value.specs.Hole.{has_member};
@@ -26,11 +26,7 @@ use std::alloc::Global;
 pub(crate) fn read_value<'a>(token: Event<'a>, source: &mut Source<'a>, once: bool) -> Result<Value>
     requires going { source.old.refused ≡ None }
     requires event { EventInRange (event_of_token token source.old.scratch) }
-    ensures going { IfOk result (λ _. source.new.refused ≡ None) }
-    ensures ok { IfOk result (λ v. GivesAt (retained_if once) (event_of_token token.entry source.old.scratch)
-        source.old.rest source.new.rest (content_of v)) }
-    ensures invalid { result ≡ Err Error.Invalid
-        → GivesNoneAt (retained_if once) (event_of_token token.entry source.old.scratch) source.old.rest }
+    ensures { Reads (retained_if once) content_of (event_of_token token.entry source.old.scratch) source.old result source.new }
 {
     let mut builder = Builder::new(source.alloc());
     let mut first = builder.begin(source.step(token))?;
