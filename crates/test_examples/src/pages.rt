@@ -79,9 +79,11 @@ fn a_page_has_a_count_and_a_next_one(rt: HostRuntime) -> std::result::Result<(),
     )
 }
 
-const SMALL_AND_LARGE: &str = r#"{"items":[{"id":1,"quantity":9,"paid":false},{"id":2,"quantity":10,"paid":false},{"id":3,"quantity":20,"paid":true}],"next":"b"}"#;
+const SMALL_AND_LARGE: &str =
+    r#"{"items":[{"id":1,"quantity":9,"paid":false},{"id":2,"quantity":10,"paid":false},{"id":3,"quantity":20,"paid":true}],"next":"b"}"#;
 
-const SMALL_PAID: &str = r#"{"items":[{"id":1,"quantity":9,"paid":true,"note":null},{"id":2,"quantity":10,"paid":false,"note":null},{"id":3,"quantity":20,"paid":true,"note":null}],"next":"b"}"#;
+const SMALL_PAID: &str =
+    r#"{"items":[{"id":1,"quantity":9,"paid":true,"note":null},{"id":2,"quantity":10,"paid":false,"note":null},{"id":3,"quantity":20,"paid":true,"note":null}],"next":"b"}"#;
 
 /// Returns whether the small orders of a text are paid as they should be.
 fn are_paid(alloc: Global, text: &str, expected: &str) -> Result<bool> {

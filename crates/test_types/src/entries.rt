@@ -115,6 +115,7 @@ mod tests {
             " [ 7, \"a\\/\" ]  => [7,\"a/\"]\n[4294967295,\"\"] => same\n[7]\n[\"a\",7]\n[4294967296,\"\"]\n{}",
         )
     }
+
     #[test]
     fn a_span_round_trips(rt: HostRuntime) -> Result<(), Wrong> {
         expect_round_trip::<Span>(
