@@ -102,12 +102,12 @@ reads_if true code d = inl (d.0 refl, refl)
 reads_if false code d = inr (λ p. true≢false (sym (d.1 p)), refl)
 
 -- if r is v exactly if P holds, r is what is read
-pub as_read : {A C E P : Type 0} (content : A → C) (k : Option C) (v : A) (r : Result A E) → ReadsIf P k (content v)
+pub as_read : {A C E P : Type 0} {k : Option C} {v : A} (content : A → C) (r : Result A E) → ReadsIf P k (content v)
     → OkIff r P v → MatchResult r (λ n. k ≡ Some (content n)) (λ _. k ≡ None)
-as_read content k v (Ok x) (inl d) gives = d.1 ∙ ap (λ n. Some (content n)) (sym gives.1)
-as_read content k v (Ok x) (inr d) gives = absurd (d.0 gives.0)
-as_read content k v (Err x) (inl d) gives = absurd (gives d.0)
-as_read content k v (Err x) (inr d) gives = d.1
+as_read content (Ok x) (inl d) gives = d.1 ∙ ap (λ n. Some (content n)) (sym gives.1)
+as_read content (Ok x) (inr d) gives = absurd (d.0 gives.0)
+as_read content (Err x) (inl d) gives = absurd (gives d.0)
+as_read content (Err x) (inr d) gives = d.1
 
 -- if R says that the number of the digits is below the limit, then they are read exactly if they are digits and R
 -- holds
@@ -154,7 +154,7 @@ unsigned-back bits wide n h =
 -- what std's `parse` returns is what the text is read as
 pub unsigned-parses : {E : Type 0} (bits : ℕ) (bs : List ℕ) (r : Result ℕ E) → ParsesUnsigned bits 10 bs r
     → MatchResult r (λ n. read_unsigned bits bs ≡ Some (of_nat n)) (λ _. read_unsigned bits bs ≡ None)
-unsigned-parses bits bs r gives = as_read of_nat _ _ r (unsigned_reads bits bs) gives
+unsigned-parses bits bs r gives = as_read of_nat r (unsigned_reads bits bs) gives
 
 -- ---- signed integers
 
@@ -216,7 +216,7 @@ signed-back bits w e wide (negsuc n) h =
 pub signed-parses : {E : Type 0} (bits : ℕ) (w : Width) → hbits w ≡ bits - 1 → (bs : List ℕ) (r : Result ℤ E)
     → ParsesSigned w 10 bs r
     → MatchResult r (λ n. read_signed bits bs ≡ Some (of_int n)) (λ _. read_signed bits bs ≡ None)
-signed-parses bits w e bs r gives = as_read of_int _ _ r (signed_reads bits w e bs) gives
+signed-parses bits w e bs r gives = as_read of_int r (signed_reads bits w e bs) gives
 
 -- ---- characters
 

@@ -76,16 +76,16 @@ signed_decides bits w e (negsuc n) =
 -- an unsigned type takes a number without a minus as `try_from` does
 pub unsigned-gives : {E : Type 0} (bits n : ℕ) (r : Result ℕ E) → OkIff r (n < 2 ^ bits) n
     → MatchResult r (λ v. unsigned_of bits (nonneg n) ≡ Some (pos v)) (λ _. unsigned_of bits (nonneg n) ≡ None)
-unsigned-gives bits n r gives = as_read (λ v. pos v) _ n r (reads_if _ _ (unsigned_decides bits n)) gives
+unsigned-gives bits n r gives = as_read (λ v. pos v) r (reads_if _ _ (unsigned_decides bits n)) gives
 
 -- a signed type takes a number without a minus as `try_from` does
 pub signed-gives : {E : Type 0} (bits : ℕ) (w : Width) → hbits w ≡ bits - 1 → (n : ℕ) (r : Result ℤ E)
     → OkIff r (FitsSigned w (pos n)) (pos n)
     → MatchResult r (λ v. signed_of bits (nonneg n) ≡ Some v) (λ _. signed_of bits (nonneg n) ≡ None)
-signed-gives bits w e n r gives = as_read (λ v. v) _ (pos n) r (reads_if _ _ (signed_decides bits w e (pos n))) gives
+signed-gives bits w e n r gives = as_read (λ v. v) r (reads_if _ _ (signed_decides bits w e (pos n))) gives
 
 -- and so it takes a number with a minus
 pub signed-minus_gives : {E : Type 0} (bits : ℕ) (w : Width) → hbits w ≡ bits - 1 → (z : ℤ) (r : Result ℤ E)
     → OkIff r (FitsSigned w z) z
     → MatchResult r (λ v. signed_of bits (neg z) ≡ Some v) (λ _. signed_of bits (neg z) ≡ None)
-signed-minus_gives bits w e z r gives = as_read (λ v. v) _ z r (reads_if _ _ (signed_decides bits w e z)) gives
+signed-minus_gives bits w e z r gives = as_read (λ v. v) r (reads_if _ _ (signed_decides bits w e z)) gives
