@@ -3,7 +3,7 @@
 use Rattle.std.proofs.Common.{◌≡◌, ◌≢◌, ◌∙◌, ℕ, zero, suc, ◌+◌, ◌-◌, ◌^◌, ◌<◌, ◌≤◌, ℤ, pos, negsuc, neg_ℤ, Bool}
 use Rattle.std.proofs.Common.{true, false, cond, nat_eq, List, [], ◌∷◌, length, drop, get_or, Option, Some, None}
 use Rattle.std.proofs.Common.{refl, sym, ap, subst, inl, inr, arith, append-nil}
-use Rattle.std.specs.Prelude.{decimal, ◌⊎◌, ⊤, Result, Ok, Err, OkIff, MatchResult}
+use Rattle.std.specs.Prelude.{decimal, ◌⊎◌, ◌↔◌, ⊤, Result, Ok, Err, OkIff, MatchResult}
 use Rattle.std.specs.Bool.{beq, Decides}
 use Rattle.std.specs.Ordering.{int_eq}
 use Rattle.std.specs.Char.{IsScalar, encode_utf8}
@@ -111,12 +111,11 @@ as_read content (Err x) (inr d) gives = d.1
 
 -- if R says that the number of the digits is below the limit, then they are read exactly if they are digits and R
 -- holds
-digits_read : (limit : ℕ) (code : ℕ → List ℕ) (ds : List ℕ) (R : Type 0) → (R → digits_value 10 ds < limit)
-    → (digits_value 10 ds < limit → R)
+digits_read : {R : Type 0} (limit : ℕ) (code : ℕ → List ℕ) (ds : List ℕ) → R ↔ (digits_value 10 ds < limit)
     → ReadsIf (IsNumeral 10 ds × R) (read_digits limit code ds) (code (digits_value 10 ds))
-digits_read limit code ds R to from =
+digits_read limit code ds says =
     reads_if (are_digits_below limit ds) _
-    (Decides-like _ (λ d. (d.0, from d.1)) (λ d. (d.0, to d.1)) (digits_decide limit ds))
+    (Decides-like _ (λ d. (d.0, says.1 d.1)) (λ d. (d.0, says.0 d.1)) (digits_decide limit ds))
 
 -- the digits of a number below the limit are read as that number
 decimal_some : (limit : ℕ) (code : ℕ → List ℕ) (n : ℕ) → n < 2 ^ 64 → n < limit
@@ -142,7 +141,7 @@ unsigned_reads : (bits : ℕ) (bs : List ℕ)
     → ReadsIf (IsNumeral 10 (without_leading_plus bs) × (digits_value 10 (without_leading_plus bs) < 2 ^ bits))
     (read_unsigned bits bs) (of_nat (digits_value 10 (without_leading_plus bs)))
 unfolding read_unsigned
-unsigned_reads bits bs = digits_read (2 ^ bits) of_nat (without_leading_plus bs) _ (λ h. h) (λ h. h)
+unsigned_reads bits bs = digits_read (2 ^ bits) of_nat (without_leading_plus bs) (λ h. h, λ h. h)
 
 -- the digits of an unsigned integer of so many bits, at most 64, are parsed as that integer
 pub unsigned-back : (bits : ℕ) → 2 ^ bits ≤ 2 ^ 64 → (n : ℕ) → n < 2 ^ bits
@@ -184,9 +183,9 @@ reads_by : (w : Width) (minus : Bool) (ds ps : List ℕ)
     → ReadsIf (IsNumeral 10 (cond minus ds ps) × FitsSigned w (signed_by minus (cond minus ds ps)))
     (read_by w minus ds ps) (of_int (signed_by minus (cond minus ds ps)))
 reads_by w true ds ps =
-    digits_read (2 ^ hbits w + 1) (λ n. of_int (neg_ℤ (pos n))) ds _ (fits_negated w _) (negated_fits w _)
+    digits_read (2 ^ hbits w + 1) (λ n. of_int (neg_ℤ (pos n))) ds (fits_negated w _, negated_fits w _)
 reads_by w false ds ps =
-    digits_read (2 ^ hbits w) (λ n. of_int (pos n)) ps _ (λ f. f.sfits) (λ h. record { sfits = h })
+    digits_read (2 ^ hbits w) (λ n. of_int (pos n)) ps (λ f. f.sfits, λ h. record { sfits = h })
 
 -- the text bs is read as its number, if it is digits after a sign or none and the number fits the type
 abbrev ReadsSigned : ℕ → Width → List ℕ → Type 0
