@@ -1,6 +1,6 @@
 -- What `parse` returns as a key, and the laws of keys: equal keys have equal codes and one text, and a key's text is
 -- parsed as it. Each test of a text is first turned into the fact that it decides.
-use Rattle.std.proofs.Common.{◌≡◌, ◌≢◌, ◌∙◌, ℕ, zero, suc, ◌+◌, ◌-◌, ◌^◌, ◌<◌, ◌≤◌, ℤ, pos, negsuc, neg_ℤ, Bool}
+use Rattle.std.proofs.Common.{◌≡◌, ◌≢◌, ◌∙◌, ℕ, zero, suc, ◌+◌, ◌^◌, ◌<◌, ◌≤◌, ℤ, pos, negsuc, neg_ℤ, Bool}
 use Rattle.std.proofs.Common.{true, false, cond, nat_eq, List, [], ◌∷◌, length, drop, get_or, Option, Some, None}
 use Rattle.std.proofs.Common.{refl, sym, ap, subst, inl, inr, arith, append-nil}
 use Rattle.std.specs.Prelude.{decimal, ◌⊎◌, ◌↔◌, ⊤, Result, Ok, Err, OkIff, MatchResult}
@@ -26,6 +26,7 @@ use mir.Syntax.{Width, w8, w16, w32, w64, w128}
 use mir.Val.{hbits}
 use Rattle.miniserde_keys.specs.Keys.{Key, of_nat, of_int, of_bool, bool_text, read_bool, single_char, read_char}
 use Rattle.miniserde_keys.specs.Keys.{are_digits_below, read_digits, read_unsigned, read_signed}
+use Rattle.miniserde_keys.specs.laws.Bits.{HasBits}
 
 -- the text of each valid key is parsed as a valid key that is equal to it: one with the same code
 abbrev pub ReadsBack : {K : Type 0} → (K → Type 0) → (K → Key) → (Key → Key) → (List ℕ → Option Key) → (K → List ℕ) → Type 0
@@ -193,29 +194,30 @@ ReadsSigned bits w bs =
     ReadsIf (IsNumeral 10 (without_leading_sign bs) × FitsSigned w (signed_digits_value 10 bs))
     (read_signed bits bs) (of_int (signed_digits_value 10 bs))
 
-signed_reads : (bits : ℕ) (w : Width) → hbits w ≡ bits - 1 → (bs : List ℕ) → ReadsSigned bits w bs
+signed_reads : {bits : ℕ} {w : Width} → HasBits w bits → (bs : List ℕ) → ReadsSigned bits w bs
 unfolding read_signed
-signed_reads bits w e bs = rw (sym e) (reads_by w (starts_with_minus bs) (drop 1 bs) (without_leading_plus bs))
+signed_reads {w = w} has bs =
+    rw (sym has.besides_sign) (reads_by w (starts_with_minus bs) (drop 1 bs) (without_leading_plus bs))
 
 -- the text of a signed integer of so many bits, at most 64, is parsed as that integer
-pub signed-back : (bits : ℕ) (w : Width) → hbits w ≡ bits - 1 → 2 ^ hbits w ≤ 2 ^ 63 → (n : ℤ) → FitsSigned w n
+pub signed-back : {bits : ℕ} {w : Width} → HasBits w bits → (n : ℤ) → FitsSigned w n
     → read_signed bits (signed_decimal n) ≡ Some (of_int n)
 unfolding read_signed
-signed-back bits w e wide (pos n) h =
+signed-back {w = w} has (pos n) h =
     let below : n < 2 ^ hbits w = h.sfits in
-    let small : n < 2 ^ 64 = omega arith in
+    let small : n < 2 ^ 64 = omega (arith, has.at_most_64) in
     let own = decimal_some (2 ^ hbits w) (λ n. of_int (pos n)) n small below in
-    rw (sym e, no_minus n small, no_plus n small) own
-signed-back bits w e wide (negsuc n) h =
+    rw (sym has.besides_sign, no_minus n small, no_plus n small) own
+signed-back {w = w} has (negsuc n) h =
     let below : n < 2 ^ hbits w = h.sfits in
-    let own = decimal_some (2 ^ hbits w + 1) (λ n. of_int (neg_ℤ (pos n))) (suc n) (omega arith) (omega arith) in
-    rw (sym e) own
+    let own = decimal_some (2 ^ hbits w + 1) (λ n. of_int (neg_ℤ (pos n))) (suc n) (omega (arith, has.at_most_64)) (omega arith) in
+    rw (sym has.besides_sign) own
 
 -- what std's `parse` returns is what the text is read as
-pub signed-parses : {E : Type 0} (bits : ℕ) (w : Width) → hbits w ≡ bits - 1 → (bs : List ℕ) (r : Result ℤ E)
+pub signed-parses : {E : Type 0} {bits : ℕ} {w : Width} → HasBits w bits → (bs : List ℕ) (r : Result ℤ E)
     → ParsesSigned w 10 bs r
     → MatchResult r (λ n. read_signed bits bs ≡ Some (of_int n)) (λ _. read_signed bits bs ≡ None)
-signed-parses bits w e bs r gives = as_read of_int r (signed_reads bits w e bs) gives
+signed-parses has bs r gives = as_read of_int r (signed_reads has bs) gives
 
 -- ---- characters
 

@@ -4,10 +4,10 @@ use Rattle.std.proofs.Common.{◌≡◌, ◌<◌, ◌^◌, ◌-◌, ℕ, ℤ, po
 use Rattle.std.specs.Prelude.{Bool, FitsSigned, ⊤}
 use Rattle.std.proofs.lemmas.Bool.Decides.{nat_tests}
 use mir.Syntax.{Width}
-use mir.Val.{hbits}
 use Rattle.miniserde_model.specs.Tree.{Tree, null, truth, nonneg, str}
 use Rattle.miniserde_read.specs.types.Integers.{fits_signed, ReadsUnsigned, ReadsSigned}
 use Rattle.miniserde_keys.specs.Integers.{integer}
+use Rattle.miniserde_keys.specs.laws.Bits.{HasBits}
 use Rattle.miniserde_laws.specs.RoundTrip.{RoundTrips}
 
 -- ---- the tree of a value is read back
@@ -32,14 +32,14 @@ passes : (k n : ℕ) → n < k → nat_lt n k ≡ true
 passes k n h = grind (arith, nat_tests)
 
 -- a number of a signed type passes its test
-signed-valid : (bits : ℕ) (w : Width) → hbits w ≡ bits - 1 → (z : ℤ) → FitsSigned w z → fits_signed bits z ≡ true
-signed-valid bits w e (pos n) h = passes (2 ^ (bits - 1)) n (subst (λ k. n < 2 ^ k) e h.sfits)
-signed-valid bits w e (negsuc n) h = passes (2 ^ (bits - 1)) n (subst (λ k. n < 2 ^ k) e h.sfits)
+signed-valid : {bits : ℕ} {w : Width} → HasBits w bits → (z : ℤ) → FitsSigned w z → fits_signed bits z ≡ true
+signed-valid {bits = bits} has (pos n) h = passes (2 ^ (bits - 1)) n (subst (λ k. n < 2 ^ k) has.besides_sign h.sfits)
+signed-valid {bits = bits} has (negsuc n) h = passes (2 ^ (bits - 1)) n (subst (λ k. n < 2 ^ k) has.besides_sign h.sfits)
 
 -- the tree of a signed integer in range means one, and each one that it means has that tree
-pub signed-round_trips : (bits : ℕ) (w : Width) → hbits w ≡ bits - 1 → (z : ℤ) → FitsSigned w z
+pub signed-round_trips : {bits : ℕ} {w : Width} → HasBits w bits → (z : ℤ) → FitsSigned w z
     → RoundTrips (FitsSigned w) integer (ReadsSigned bits) (integer z)
-signed-round_trips bits w e z h = ((z, h, integer-read bits z (signed-valid bits w e z h)), λ v r i. integer-same bits z v i)
+signed-round_trips {bits = bits} has z h = ((z, h, integer-read bits z (signed-valid has z h)), λ v r i. integer-same bits z v i)
 
 -- ---- no two values have one tree
 
