@@ -33,6 +33,10 @@ abbrev pub ReadsBack : {K : Type 0} → (K → Type 0) → (K → Key) → (Key 
 ReadsBack {K} valid content code read text =
     (k : K) → valid k → (w : K) × valid w × (read (text k) ≡ Some (content w)) × (code (content w) ≡ code (content k))
 
+-- names that are read as keys of one code are equal; `read` returns the content of the key that a name is read as
+abbrev pub ReadsOneName : (List ℕ → Option Key) → (Key → Key) → Type 0
+ReadsOneName read code = (n m : List ℕ) (c d : Key) → read n ≡ Some c → read m ≡ Some d → code c ≡ code d → n ≡ m
+
 -- ---- equal keys
 
 -- two numbers are equal exactly if the bytes of their contents are

@@ -13,7 +13,7 @@ use mir.Syntax.{Width}
 use Rattle.miniserde_keys.specs.Keys.{Key, of_nat, of_int, of_bool, read_unsigned, read_signed, read_bool, read_char, bool_text}
 use Rattle.miniserde_keys.specs.laws.Bits.{HasBits, i8_bits, i16_bits, i32_bits, i64_bits}
 use Rattle.miniserde_keys.specs.laws.Keys.{nat-alike, nat-text, unsigned-back, int-alike, int-same, signed-back}
-use Rattle.miniserde_keys.specs.laws.Keys.{bool-alike, bool-text, char_some}
+use Rattle.miniserde_keys.specs.laws.Keys.{bool-alike, bool-text, char_some, ReadsOneName}
 
 -- the laws of a type of keys of which `Eq` compares the whole content
 pub record KeyLaws {K : Type 0} (eq : K → K → Bool) (valid : K → Type 0) (content : K → Key)
@@ -96,6 +96,5 @@ only true c d e = cc
 only false c d e = absurd (cc)
 
 -- names that are read as equal texts which the check accepts are equal
-pub checked-exact : (accepts : Key → Bool) (n m c d : Key) → cond (accepts n) (Some n) None ≡ Some c
-    → cond (accepts m) (Some m) None ≡ Some d → c ≡ d → n ≡ m
+pub checked-exact : (accepts : Key → Bool) → ReadsOneName (λ n. cond (accepts n) (Some n) None) (λ c. c)
 checked-exact accepts n m c d p q e = only (accepts n) n c p ∙ e ∙ sym (only (accepts m) m d q)
