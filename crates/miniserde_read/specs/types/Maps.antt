@@ -5,7 +5,7 @@ use Rattle.std.specs.Prelude.{List, [], ◌∷◌, Option, Some, None, option_an
 use Rattle.std.specs.Prelude.{⊤, if◌then◌else◌, true, false, codes, refl}
 use Rattle.miniserde_model.specs.Tree.{Tree, members, Members, no_members, member, null, truth}
 use Rattle.miniserde_keys.specs.Keys.{Key}
-use Rattle.miniserde_read.specs.types.Objects.{Name, object_of, after_members}
+use Rattle.miniserde_read.specs.types.Objects.{Name, MemberStep, object_of, after_members}
 use Rattle.miniserde_read.specs.types.Words.{boolean_of}
 
 -- how the keys K of a map are read and compared; `content` returns the content of a key
@@ -90,8 +90,7 @@ map_content code content value es q = option_map (λ e. (content e.0, value e.1)
 
 -- the content m of a map with one more member, if `read` returns a key for its name k and f a
 -- content for its value x, which is a tree or the events of one
-abbrev pub map_member : {C X : Type 0} → (Name → Option Key) → (Key → Key) → (X → Option C) → MapContent C → Name
-    → X → Option (MapContent C)
+abbrev pub map_member : {C X : Type 0} → (Name → Option Key) → (Key → Key) → (X → Option C) → MemberStep (MapContent C) X
 map_member read code f m k x = option_and_then (λ c. option_map (with_entry code m c) (f x)) (read k)
 
 -- the content of the map that an object means, by `read` and `code`, and by `of` for the trees of its members
