@@ -55,15 +55,15 @@ EntryFits content R None (Some e) = ⊥
 EntryFits content R (Some p) None = ⊥
 EntryFits content R (Some p) (Some e) = (content e.0 ≡ p.0) × R p.1 e.1
 
--- The tree is an object, of which each member is accepted (`AllAccepted`). At each code q, es has an entry exactly if
--- the object has a member whose key has that code. The entry then has the key of the first such member, and the tree
--- of the last one means its value by R.
-abbrev pub MapReads : {K V C : Type 0} → (Name → Option Key) → (Key → Key) → (K → Key) → (Tree → Option C)
-    → (Tree → V → Type 0) → Tree → List (K × V) → Type 0
-MapReads read code content of R (members ms) es =
-    AllAccepted read of ms × ((q : Key)
-    → EntryFits content R (first_and_last_at read code q ms) (entry_at (λ k. code (content k)) q es))
-MapReads read code content of R _ es = ⊥
+-- The tree is an object, of which each member is accepted (`AllAccepted`), with keys by m. At each code q, es has an
+-- entry exactly if the object has a member whose key has that code. The entry then has the key of the first such
+-- member, and the tree of the last one means its value by R.
+abbrev pub MapReads : {K V C : Type 0} → KeyMeaning K → (Tree → Option C) → (Tree → V → Type 0) → Tree → List (K × V)
+    → Type 0
+MapReads m of R (members ms) es =
+    AllAccepted m.read of ms × ((q : Key)
+    → EntryFits m.content R (first_and_last_at m.read m.code q ms) (entry_at (λ k. m.code (m.content k)) q es))
+MapReads m of R _ es = ⊥
 
 -- ---- maps, member by member
 
