@@ -4,7 +4,7 @@ ghost use Rattle.std.specs.Int.{w8, w16, w32, w64};
 ghost use Rattle.std.specs.String.{string_bytes};
 ghost use Rattle.miniserde_model.specs.Tree.{null, truth, str};
 ghost use Rattle.miniserde_keys.specs.laws.Bits.{i8_bits, i16_bits, i32_bits, i64_bits};
-ghost use Rattle.miniserde_laws.specs.RoundTrip.{RoundTrips};
+ghost use Rattle.miniserde_laws.specs.RoundTrip.{RoundTrips, IsLossless};
 ghost use Rattle.miniserde_laws.specs.laws.Scalars.{leaf-round_trips, unsigned-round_trips, signed-round_trips};
 ghost use Rattle.miniserde_laws.specs.laws.Scalars.{boolean-same, text-same, unsigned-same, signed-same};
 ghost use Rattle.miniserde_laws.specs.laws.Scalars.{boolean-not_null, text-not_null, unsigned-not_null, signed-not_null};
@@ -23,8 +23,7 @@ pub trait Scalar: Ranged + Serialize + FromJson {
         → RoundTrips Self.valid Self.tree Self.means.reads (Self.tree v) };
 
     // Two valid values with the same tree have the same content.
-    ghost same: { (v w : Self) → Self.valid v → Self.valid w → Self.tree v ≡ Self.tree w
-        → Self.means.content v ≡ Self.means.content w };
+    ghost same: { IsLossless Self.valid Self.tree Self.means.content };
 
     // No valid value is written as `null`.
     ghost not_null: { (v : Self) → Self.valid v → Self.tree v ≡ null → ⊥ };

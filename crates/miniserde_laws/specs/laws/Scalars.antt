@@ -8,7 +8,7 @@ use Rattle.miniserde_model.specs.Tree.{Tree, null, truth, nonneg, str}
 use Rattle.miniserde_read.specs.types.Integers.{fits_signed, ReadsUnsigned, ReadsSigned}
 use Rattle.miniserde_keys.specs.Integers.{integer}
 use Rattle.miniserde_keys.specs.laws.Bits.{HasBits}
-use Rattle.miniserde_laws.specs.RoundTrip.{RoundTrips}
+use Rattle.miniserde_laws.specs.RoundTrip.{RoundTrips, IsLossless}
 
 -- ---- the tree of a value is read back
 
@@ -44,19 +44,19 @@ signed-round_trips {bits = bits} has z h = ((z, h, integer-read bits z (signed-v
 -- ---- no two values have one tree
 
 -- booleans with equal trees are equal
-pub boolean-same : (v w : Bool) → ⊤ → ⊤ → truth v ≡ truth w → v ≡ w
+pub boolean-same : IsLossless (λ _. ⊤) truth (λ b. b)
 boolean-same v w r s e = cc
 
 -- texts with equal trees have equal bytes
-pub text-same : {T : Type 0} (bytes : T → List ℕ) (v w : T) → ⊤ → ⊤ → str (bytes v) ≡ str (bytes w) → bytes v ≡ bytes w
+pub text-same : {T : Type 0} (bytes : T → List ℕ) → IsLossless (λ _. ⊤) (λ v. str (bytes v)) bytes
 text-same bytes v w r s e = cc
 
 -- unsigned integers with equal trees have equal contents
-pub unsigned-same : (bits v w : ℕ) → v < 2 ^ bits → w < 2 ^ bits → nonneg v ≡ nonneg w → pos v ≡ pos w
+pub unsigned-same : (bits : ℕ) → IsLossless (λ n. n < 2 ^ bits) nonneg (λ n. pos n)
 unsigned-same bits v w r s e = let i : v ≡ w = cc in ap pos i
 
 -- signed integers with equal trees are equal
-pub signed-same : (w : Width) (v u : ℤ) → FitsSigned w v → FitsSigned w u → integer v ≡ integer u → v ≡ u
+pub signed-same : (w : Width) → IsLossless (FitsSigned w) integer (λ z. z)
 signed-same w (pos n) (pos m) r s e = let i : n ≡ m = cc in ap pos i
 signed-same w (pos n) (negsuc m) r s e = absurd (cc)
 signed-same w (negsuc n) (pos m) r s e = absurd (cc)
