@@ -214,7 +214,7 @@ means_to m n a content (Some p) None h = h
 means_to m n a content (Some p) (Some x) h = (h.0, (a.same p.1 x.1).0 h.1)
 
 map_to : {K V : Type 0} (k : KeyMeaning K) (m n : Meaning V) (a : Agree m n) (t : Tree) (es : List (K × V))
-    → MapReads k.read k.code k.content m.from_tree m.reads t es → MapReads k.read k.code k.content n.from_tree n.reads t es
+    → MapReads k m.from_tree m.reads t es → MapReads k n.from_tree n.reads t es
 map_to k m n a (members ms) es h =
     (taken_to k.read k.code m.from_tree n.from_tree a.some ms h.0, λ q. means_to m n a k.content _ _ (h.1 q))
 map_to k m n a t es h = absurd h

@@ -1,11 +1,12 @@
 //! std's integers: what their types differ in. What holds of all of them is written once, over `StdInteger`: keys,
 //! valid values, and how they are read and written. `usize` and `isize` have 64 bits.
-ghost use Rattle.std.specs.Prelude.{◌≡◌, ◌<◌, ◌^◌, ℕ, ℤ, pos, Bool, true, false, List, Option, Some, None, Result, MatchResult, FitsSigned, refl};
+ghost use Rattle.std.specs.Prelude.{◌≡◌, ◌<◌, ◌^◌, ℕ, ℤ, pos, Bool, true, false, List, Option, Some, None, Result, MatchResult, FitsSigned};
 ghost use Rattle.std.proofs.Common.{arith};
 ghost use Rattle.std.specs.Int.{w8, w16, w32, w64};
 ghost use Rattle.std.specs.Str.{bytes_eq};
 ghost use Rattle.miniserde_keys.specs.Integers.{number_of, is_of_signed};
 ghost use Rattle.miniserde_keys.specs.Keys.{Key, of_nat, of_int, read_unsigned, read_signed};
+ghost use Rattle.miniserde_keys.specs.laws.Bits.{i8_bits, i16_bits, i32_bits, i64_bits};
 ghost use Rattle.miniserde_keys.specs.laws.Keys.{unsigned-parses, nat-alike, nat-same, unsigned-back};
 ghost use Rattle.miniserde_keys.specs.laws.Keys.{signed-parses, int-alike, int-same, signed-back};
 
@@ -199,13 +200,13 @@ impl StdInteger for i8 {
         WideInteger::Signed(self as i64)
     }
 
-    ghost parses = { λ k r gives. signed-parses 8 w8 refl k r gives.0 };
+    ghost parses = { λ k r gives. signed-parses i8_bits k r gives.0 };
 
     ghost alike = { int-alike };
 
     ghost same = { int-same };
 
-    ghost back = { signed-back 8 w8 refl (Prim.omega arith) };
+    ghost back = { signed-back i8_bits };
 }
 
 impl StdInteger for i16 {
@@ -224,13 +225,13 @@ impl StdInteger for i16 {
         WideInteger::Signed(self as i64)
     }
 
-    ghost parses = { λ k r gives. signed-parses 16 w16 refl k r gives.0 };
+    ghost parses = { λ k r gives. signed-parses i16_bits k r gives.0 };
 
     ghost alike = { int-alike };
 
     ghost same = { int-same };
 
-    ghost back = { signed-back 16 w16 refl (Prim.omega arith) };
+    ghost back = { signed-back i16_bits };
 }
 
 impl StdInteger for i32 {
@@ -249,13 +250,13 @@ impl StdInteger for i32 {
         WideInteger::Signed(self as i64)
     }
 
-    ghost parses = { λ k r gives. signed-parses 32 w32 refl k r gives.0 };
+    ghost parses = { λ k r gives. signed-parses i32_bits k r gives.0 };
 
     ghost alike = { int-alike };
 
     ghost same = { int-same };
 
-    ghost back = { signed-back 32 w32 refl (Prim.omega arith) };
+    ghost back = { signed-back i32_bits };
 }
 
 impl StdInteger for i64 {
@@ -274,13 +275,13 @@ impl StdInteger for i64 {
         WideInteger::Signed(self)
     }
 
-    ghost parses = { λ k r gives. signed-parses 64 w64 refl k r gives.0 };
+    ghost parses = { λ k r gives. signed-parses i64_bits k r gives.0 };
 
     ghost alike = { int-alike };
 
     ghost same = { int-same };
 
-    ghost back = { signed-back 64 w64 refl (Prim.omega arith) };
+    ghost back = { signed-back i64_bits };
 }
 
 impl StdInteger for isize {
@@ -299,11 +300,11 @@ impl StdInteger for isize {
         WideInteger::Signed(self as i64)
     }
 
-    ghost parses = { λ k r gives. signed-parses 64 w64 refl k r gives.0 };
+    ghost parses = { λ k r gives. signed-parses i64_bits k r gives.0 };
 
     ghost alike = { int-alike };
 
     ghost same = { int-same };
 
-    ghost back = { signed-back 64 w64 refl (Prim.omega arith) };
+    ghost back = { signed-back i64_bits };
 }

@@ -3,10 +3,11 @@ use Rattle.std.proofs.Common.{◌≡◌, List, [], ◌∷◌, map, refl}
 use Rattle.std.specs.List.{AllByRecursion}
 use Rattle.miniserde_model.specs.Tree.{Tree, list}
 use Rattle.miniserde_ser.specs.Trees.{trees_of}
+use Rattle.miniserde_laws.specs.RoundTrip.{IsLossless}
 
 -- by the law of the type of the items
 module _ {T C : Type 0} (valid : T → Type 0) (f : T → Tree) (content : T → C)
-    (lossless : (v w : T) → valid v → valid w → f v ≡ f w → content v ≡ content w) where
+    (lossless : IsLossless valid f content) where
   one_each : (xs ys : List T) → AllByRecursion valid xs → AllByRecursion valid ys → trees_of f xs ≡ trees_of f ys
       → map content xs ≡ map content ys
   one_each [] [] p q e = refl

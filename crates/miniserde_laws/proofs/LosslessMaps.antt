@@ -21,6 +21,7 @@ use Rattle.miniserde_read.specs.types.Maps.{entry_at, map_content}
 use Rattle.miniserde_read.proofs.Entries.{same, equal_if_tested, tested_if_equal, contains-cases, contains-first, contains-later}
 use Rattle.miniserde_read.proofs.Entries.{found, at-contained}
 use Rattle.miniserde_ser.specs.Trees.{members_of, in_order}
+use Rattle.miniserde_laws.specs.RoundTrip.{IsLossless}
 
 -- the order of members doesn't count for what stands at a name
 last_in_order : (q : Name) (ms : Members) → last_of q (in_order ms) ≡ last_of q ms
@@ -38,7 +39,7 @@ module _ {K V C : Type 0} (read : Name → Option Key) (code : Key → Key) (con
     (f : V → Tree) (value : V → C) (key_valid : K → Type 0) (valid : V → Type 0)
     (back : ReadsBack key_valid content code read text)
     (injective : (a b : K) → code (content a) ≡ code (content b) → content a ≡ content b)
-    (lossless : (v w : V) → valid v → valid w → f v ≡ f w → value v ≡ value w) where
+    (lossless : IsLossless valid f value) where
   abbrev pub code_of : K → Key
   code_of k = code (content k)
 

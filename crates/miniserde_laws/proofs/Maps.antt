@@ -17,7 +17,8 @@ use Rattle.miniserde_model.specs.Normal.{with_if_absent}
 use Rattle.miniserde_keys.specs.Keys.{Key}
 use Rattle.miniserde_keys.specs.laws.Keys.{ReadsBack}
 use Rattle.miniserde_read.specs.types.Objects.{Name}
-use Rattle.miniserde_read.specs.types.Maps.{first_and_last, first_and_last_at, AllAccepted, entry_at, EntryFits, MapReads}
+use Rattle.miniserde_read.specs.types.Maps.{key_meaning, first_and_last, first_and_last_at, AllAccepted, entry_at}
+use Rattle.miniserde_read.specs.types.Maps.{EntryFits, MapReads}
 use Rattle.miniserde_read.proofs.Entries.{same, equal_if_tested, tested_if_equal, found}
 use Rattle.miniserde_ser.specs.Trees.{members_of, in_order}
 use Rattle.miniserde_ser.proofs.Names.{distinct_names}
@@ -45,7 +46,7 @@ module _ {K V C : Type 0} (read : Name → Option Key) (code : Key → Key) (con
 
   -- the tree means the entries
   abbrev Reads : Tree → List (K × V) → Type 0
-  Reads t es = MapReads read code content of R t es
+  Reads t es = MapReads (key_meaning read code content) of R t es
 
   -- ---- the entries that are read
 

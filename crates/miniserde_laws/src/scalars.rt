@@ -1,9 +1,10 @@
 //! The promises of `RoundTrip`, `Lossless` and `NeverNull` for `bool`, integers and `String`.
-ghost use Rattle.std.specs.Prelude.{◌≡◌, refl};
+ghost use Rattle.std.specs.Prelude.{◌≡◌};
 ghost use Rattle.std.specs.Int.{w8, w16, w32, w64};
 ghost use Rattle.std.specs.String.{string_bytes};
 ghost use Rattle.miniserde_model.specs.Tree.{null, truth, str};
-ghost use Rattle.miniserde_laws.specs.RoundTrip.{RoundTrips};
+ghost use Rattle.miniserde_keys.specs.laws.Bits.{i8_bits, i16_bits, i32_bits, i64_bits};
+ghost use Rattle.miniserde_laws.specs.RoundTrip.{RoundTrips, IsLossless};
 ghost use Rattle.miniserde_laws.specs.laws.Scalars.{leaf-round_trips, unsigned-round_trips, signed-round_trips};
 ghost use Rattle.miniserde_laws.specs.laws.Scalars.{boolean-same, text-same, unsigned-same, signed-same};
 ghost use Rattle.miniserde_laws.specs.laws.Scalars.{boolean-not_null, text-not_null, unsigned-not_null, signed-not_null};
@@ -22,8 +23,7 @@ pub trait Scalar: Ranged + Serialize + FromJson {
         → RoundTrips Self.valid Self.tree Self.means.reads (Self.tree v) };
 
     // Two valid values with the same tree have the same content.
-    ghost same: { (v w : Self) → Self.valid v → Self.valid w → Self.tree v ≡ Self.tree w
-        → Self.means.content v ≡ Self.means.content w };
+    ghost same: { IsLossless Self.valid Self.tree Self.means.content };
 
     // No valid value is written as `null`.
     ghost not_null: { (v : Self) → Self.valid v → Self.tree v ≡ null → ⊥ };
@@ -86,7 +86,7 @@ impl Scalar for usize {
 }
 
 impl Scalar for i8 {
-    ghost round_trips = { signed-round_trips 8 w8 refl };
+    ghost round_trips = { signed-round_trips i8_bits };
 
     ghost same = { signed-same w8 };
 
@@ -94,7 +94,7 @@ impl Scalar for i8 {
 }
 
 impl Scalar for i16 {
-    ghost round_trips = { signed-round_trips 16 w16 refl };
+    ghost round_trips = { signed-round_trips i16_bits };
 
     ghost same = { signed-same w16 };
 
@@ -102,7 +102,7 @@ impl Scalar for i16 {
 }
 
 impl Scalar for i32 {
-    ghost round_trips = { signed-round_trips 32 w32 refl };
+    ghost round_trips = { signed-round_trips i32_bits };
 
     ghost same = { signed-same w32 };
 
@@ -110,7 +110,7 @@ impl Scalar for i32 {
 }
 
 impl Scalar for i64 {
-    ghost round_trips = { signed-round_trips 64 w64 refl };
+    ghost round_trips = { signed-round_trips i64_bits };
 
     ghost same = { signed-same w64 };
 
@@ -118,7 +118,7 @@ impl Scalar for i64 {
 }
 
 impl Scalar for isize {
-    ghost round_trips = { signed-round_trips 64 w64 refl };
+    ghost round_trips = { signed-round_trips i64_bits };
 
     ghost same = { signed-same w64 };
 

@@ -8,7 +8,7 @@ use Rattle.miniserde_model.specs.Tree.{Tree, null, truth, nonneg, neg, num, str,
 use Rattle.miniserde_model.specs.Normal.{last_of, or_else}
 use Rattle.miniserde_keys.specs.Keys.{Key}
 use Rattle.miniserde_read.specs.types.Objects.{Name}
-use Rattle.miniserde_read.specs.types.Maps.{first_and_last, first_and_last_at, entry_at, EntryFits, MapReads}
+use Rattle.miniserde_read.specs.types.Maps.{key_meaning, first_and_last, first_and_last_at, entry_at, EntryFits, MapReads}
 use Rattle.miniserde_read.specs.Lookups.{last_in, last_at, IsValueOf}
 
 -- ---- the last tree of a name is the last tree of the members whose key it is
@@ -48,7 +48,7 @@ module _ {K V : Type 0} (content : K → Key) (R : Tree → V → Type 0) where
   value_at (Some p) (Some e) h = (p.1, refl, h.1)
 
   module _ {C : Type 0} (read : Name → Option Key) (code : Key → Key) (of : Tree → Option C) where
-    pub last_key : (t : Tree) (es : List (K × V)) → MapReads read code content of R t es
+    pub last_key : (t : Tree) (es : List (K × V)) → MapReads (key_meaning read code content) of R t es
         → (test : K → Bool) (q : Key) → ((k : K) → test k ≡ bytes_eq (code (content k)) q)
         → IsValueOf R (last_at read code q t) (lookup test es)
     last_key (members ms) es h test q same =
@@ -64,7 +64,7 @@ module _ {K V : Type 0} (content : K → Key) (R : Tree → V → Type 0) where
     last_key (list ts) es h test q same = absurd h
 
   module _ {C : Type 0} (of : Tree → Option C) where
-    pub last_name : (t : Tree) (es : List (K × V)) → MapReads (λ k. Some k) (λ c. c) content of R t es
+    pub last_name : (t : Tree) (es : List (K × V)) → MapReads (key_meaning (λ k. Some k) (λ c. c) content) of R t es
         → (test : K → Bool) (q : Name) → ((k : K) → test k ≡ bytes_eq (content k) q)
         → IsValueOf R (last_in q t) (lookup test es)
     last_name (members ms) es h test q same =

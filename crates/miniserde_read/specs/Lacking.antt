@@ -19,7 +19,7 @@ EscapedMember first s = (b : List ℕ) × Follows Map first false s b × BeginsE
 
 -- from s to r stands one element, with the comma before it unless `first` says that it is the first one
 abbrev pub AnElement : Bool → List ℕ → List ℕ → Type 0
-AnElement first s r = (t : Tree) × OneElement (ValueAt t) (λ d r. d ≡ r) first s r
+AnElement first s r = (t : Tree) × OneElement (ValueAt t) (λ rest. rest ≡ r) first s
 
 -- one of the next n elements in s begins as a string with a backslash, and those before it are values; `first` says
 -- that the opening bracket was just taken

@@ -77,5 +77,5 @@ box_meaning m value = meaning_with (λ b. m.content (value b)) m.from_tree (λ t
 abbrev pub map_meaning : {K V W : Type 0} → KeyMeaning K → Meaning V → (W → List (K × V)) → Meaning W
 map_meaning k m entries =
     meaning_with (λ v. map_content k.code k.content m.content (entries v)) (map_of k.read k.code m.from_tree)
-    (λ t v. MapReads k.read k.code k.content m.from_tree m.reads t (entries v))
+    (λ t v. MapReads k m.from_tree m.reads t (entries v))
     (λ t v. map-given k.read k.code k.content m.from_tree m.content m.reads m.reads_agrees t (entries v))

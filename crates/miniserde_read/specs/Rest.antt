@@ -10,9 +10,9 @@ use Rattle.miniserde_model.specs.Lexing.{Starts, Names, Follows}
 use Rattle.miniserde_model.specs.declared.kind.Kind.TheVariants.{Seq, Map}
 
 -- The text s goes on with an element, after a comma unless `first` is true. V relates the element's
--- first event, the text behind its first token, and the text `rest` behind the element; K relates
--- `rest` and r.
-pub record OneElement (V : Step → List ℕ → List ℕ → Type 0) (K : List ℕ → List ℕ → Type 0) (first : Bool) (s r : List ℕ) : Type 0 where
+-- first event, the text behind its first token, and the text `rest` behind the element; K holds of
+-- `rest`.
+pub record OneElement (V : Step → List ℕ → List ℕ → Type 0) (K : List ℕ → Type 0) (first : Bool) (s : List ℕ) : Type 0 where
   pub begin : List ℕ
   pub event : Step
   pub behind : List ℕ
@@ -20,13 +20,13 @@ pub record OneElement (V : Step → List ℕ → List ℕ → Type 0) (K : List 
   pub follows : Follows Seq first false s begin
   pub starts : Starts begin event behind
   pub is_value : V event behind rest
-  pub is_rest : K rest r
+  pub is_rest : K rest
 
 -- The text s goes on with a member of the name, after a comma unless `first` is true. V relates the
 -- first event of the member's value, the text behind the value's first token, and the text `rest`
--- behind the value; K relates `rest` and r.
-pub record OneMember (name : List ℕ) (V : Step → List ℕ → List ℕ → Type 0) (K : List ℕ → List ℕ → Type 0)
-    (first : Bool) (s r : List ℕ) : Type 0 where
+-- behind the value; K holds of `rest`.
+pub record OneMember (name : List ℕ) (V : Step → List ℕ → List ℕ → Type 0) (K : List ℕ → Type 0) (first : Bool)
+    (s : List ℕ) : Type 0 where
   pub begin : List ℕ
   pub named : List ℕ
   pub event : Step
@@ -36,7 +36,7 @@ pub record OneMember (name : List ℕ) (V : Step → List ℕ → List ℕ → T
   pub names : Names begin name named
   pub starts : Starts named event behind
   pub is_value : V event behind rest
-  pub is_rest : K rest r
+  pub is_rest : K rest
 
 abbrev mutual
   -- the event e, which is the first one of a value, and the text from s to r spell the tree
@@ -54,13 +54,13 @@ abbrev mutual
   -- was just taken
   pub ElementsAt : Trees → Bool → List ℕ → List ℕ → Type 0
   ElementsAt no_trees first s r = Follows Seq first true s r
-  ElementsAt (tree t ts) first s r = OneElement (ValueAt t) (ElementsAt ts false) first s r
+  ElementsAt (tree t ts) first s r = OneElement (ValueAt t) (λ rest. ElementsAt ts false rest r) first s
 
   -- from s to r stand texts that spell the members, and the closing bracket; `first` says that the opening bracket
   -- was just taken
   pub MembersAt : Members → Bool → List ℕ → List ℕ → Type 0
   MembersAt no_members first s r = Follows Map first true s r
-  MembersAt (member name t ms) first s r = OneMember name (ValueAt t) (MembersAt ms false) first s r
+  MembersAt (member name t ms) first s r = OneMember name (ValueAt t) (λ rest. MembersAt ms false rest r) first s
 
 -- ---- the content of a value, by its first event and the text after that
 

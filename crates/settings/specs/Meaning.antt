@@ -5,7 +5,7 @@ use Rattle.miniserde.specs.Words.{boolean_of, string_of}
 use Rattle.miniserde.specs.Integers.{unsigned_of}
 use Rattle.miniserde.specs.Lists.{ListReads, list_of}
 use Rattle.miniserde.specs.Options.{OptionReads, option_of}
-use Rattle.miniserde.specs.Maps.{MapReads, map_of, map_content}
+use Rattle.miniserde.specs.Maps.{key_meaning, MapReads, map_of, map_content}
 use Rattle.miniserde.specs.Fields.{LastMemberReads}
 use Rattle.settings.specs.declared.parts.Host.{Host}
 use Rattle.settings.specs.declared.parts.Tls.{Tls}
@@ -35,7 +35,7 @@ IsSettings host tls (members ms) s = LastMemberReads ⊥ (λ t. t ≡ str (strin
     × LastMemberReads ⊥ (λ t. IsBelow 65536 t s.port) (unsigned_of 16) (codes "port") ms
     × LastMemberReads (s.tls ≡ None) (λ t. OptionReads IsTls t s.tls) (option_of tls) (codes "tls") ms
     × LastMemberReads ⊥ (λ t. ListReads IsHost t s.hosts.items) (list_of host) (codes "hosts") ms
-    × LastMemberReads ⊥ (λ t. MapReads Some (λ k. k) string_bytes (unsigned_of 64) (IsBelow (2 ^ 64)) t
+    × LastMemberReads ⊥ (λ t. MapReads (key_meaning Some (λ k. k) string_bytes) (unsigned_of 64) (IsBelow (2 ^ 64)) t
     s.limits.entries) (map_of Some (λ k. k) (unsigned_of 64)) (codes "limits") ms
 IsSettings host tls t s = ⊥
 

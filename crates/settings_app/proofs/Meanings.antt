@@ -8,7 +8,7 @@ use Rattle.miniserde.specs.Words.{string_of}
 use Rattle.miniserde.specs.Integers.{unsigned_of}
 use Rattle.miniserde.specs.Lists.{ListReads, list_of}
 use Rattle.miniserde.specs.Options.{OptionReads, option_of}
-use Rattle.miniserde.specs.Maps.{MapReads, map_of}
+use Rattle.miniserde.specs.Maps.{key_meaning, MapReads, map_of}
 use Rattle.settings.specs.Meaning.{IsBelow, IsHost, IsTls, IsSettings}
 use Rattle.settings.specs.declared.types.Settings.{Settings}
 use Rattle.settings_app.specs.Changes.{at_port, with_member_behind}
@@ -25,5 +25,5 @@ module _ {C D : Type 0} (host : Tree → Option C) (tls : Tree → Option D) (po
         as_before (option_of tls) (codes "tls") (codes "port") u (s.tls ≡ None) (λ t. OptionReads IsTls t s.tls) ms refl r.2,
         as_before (list_of host) (codes "hosts") (codes "port") u ⊥ (λ t. ListReads IsHost t s.hosts.items) ms refl r.3,
         as_before (map_of Some (λ k. k) (unsigned_of 64)) (codes "limits") (codes "port") u ⊥
-            (λ t. MapReads Some (λ k. k) string_bytes (unsigned_of 64) (IsBelow (2 ^ 64)) t s.limits.entries) ms refl r.4,
+            (λ t. MapReads (key_meaning Some (λ k. k) string_bytes) (unsigned_of 64) (IsBelow (2 ^ 64)) t s.limits.entries) ms refl r.4,
       )

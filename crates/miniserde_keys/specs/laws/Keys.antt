@@ -1,9 +1,9 @@
 -- What `parse` returns as a key, and the laws of keys: equal keys have equal codes and one text, and a key's text is
 -- parsed as it. Each test of a text is first turned into the fact that it decides.
-use Rattle.std.proofs.Common.{◌≡◌, ◌≢◌, ◌∙◌, ℕ, zero, suc, ◌+◌, ◌-◌, ◌^◌, ◌<◌, ◌≤◌, ℤ, pos, negsuc, neg_ℤ, Bool}
+use Rattle.std.proofs.Common.{◌≡◌, ◌≢◌, ◌∙◌, ℕ, zero, suc, ◌+◌, ◌^◌, ◌<◌, ◌≤◌, ℤ, pos, negsuc, neg_ℤ, Bool}
 use Rattle.std.proofs.Common.{true, false, cond, nat_eq, List, [], ◌∷◌, length, drop, get_or, Option, Some, None}
 use Rattle.std.proofs.Common.{refl, sym, ap, subst, inl, inr, arith, append-nil}
-use Rattle.std.specs.Prelude.{decimal, ◌⊎◌, ⊤, Result, Ok, Err, OkIff, MatchResult}
+use Rattle.std.specs.Prelude.{decimal, ◌⊎◌, ◌↔◌, ⊤, Result, Ok, Err, OkIff, MatchResult}
 use Rattle.std.specs.Bool.{beq, Decides}
 use Rattle.std.specs.Ordering.{int_eq}
 use Rattle.std.specs.Char.{IsScalar, encode_utf8}
@@ -26,11 +26,16 @@ use mir.Syntax.{Width, w8, w16, w32, w64, w128}
 use mir.Val.{hbits}
 use Rattle.miniserde_keys.specs.Keys.{Key, of_nat, of_int, of_bool, bool_text, read_bool, single_char, read_char}
 use Rattle.miniserde_keys.specs.Keys.{are_digits_below, read_digits, read_unsigned, read_signed}
+use Rattle.miniserde_keys.specs.laws.Bits.{HasBits}
 
 -- the text of each valid key is parsed as a valid key that is equal to it: one with the same code
 abbrev pub ReadsBack : {K : Type 0} → (K → Type 0) → (K → Key) → (Key → Key) → (List ℕ → Option Key) → (K → List ℕ) → Type 0
 ReadsBack {K} valid content code read text =
     (k : K) → valid k → (w : K) × valid w × (read (text k) ≡ Some (content w)) × (code (content w) ≡ code (content k))
+
+-- names that are read as keys of one code are equal; `read` returns the content of the key that a name is read as
+abbrev pub ReadsOneName : (List ℕ → Option Key) → (Key → Key) → Type 0
+ReadsOneName read code = (n m : List ℕ) (c d : Key) → read n ≡ Some c → read m ≡ Some d → code c ≡ code d → n ≡ m
 
 -- ---- equal keys
 
@@ -102,21 +107,20 @@ reads_if true code d = inl (d.0 refl, refl)
 reads_if false code d = inr (λ p. true≢false (sym (d.1 p)), refl)
 
 -- if r is v exactly if P holds, r is what is read
-pub as_read : {A C E P : Type 0} (content : A → C) (k : Option C) (v : A) (r : Result A E) → ReadsIf P k (content v)
+pub as_read : {A C E P : Type 0} {k : Option C} {v : A} (content : A → C) (r : Result A E) → ReadsIf P k (content v)
     → OkIff r P v → MatchResult r (λ n. k ≡ Some (content n)) (λ _. k ≡ None)
-as_read content k v (Ok x) (inl d) gives = d.1 ∙ ap (λ n. Some (content n)) (sym gives.1)
-as_read content k v (Ok x) (inr d) gives = absurd (d.0 gives.0)
-as_read content k v (Err x) (inl d) gives = absurd (gives d.0)
-as_read content k v (Err x) (inr d) gives = d.1
+as_read content (Ok x) (inl d) gives = d.1 ∙ ap (λ n. Some (content n)) (sym gives.1)
+as_read content (Ok x) (inr d) gives = absurd (d.0 gives.0)
+as_read content (Err x) (inl d) gives = absurd (gives d.0)
+as_read content (Err x) (inr d) gives = d.1
 
 -- if R says that the number of the digits is below the limit, then they are read exactly if they are digits and R
 -- holds
-digits_read : (limit : ℕ) (code : ℕ → List ℕ) (ds : List ℕ) (R : Type 0) → (R → digits_value 10 ds < limit)
-    → (digits_value 10 ds < limit → R)
+digits_read : {R : Type 0} (limit : ℕ) (code : ℕ → List ℕ) (ds : List ℕ) → R ↔ (digits_value 10 ds < limit)
     → ReadsIf (IsNumeral 10 ds × R) (read_digits limit code ds) (code (digits_value 10 ds))
-digits_read limit code ds R to from =
+digits_read limit code ds says =
     reads_if (are_digits_below limit ds) _
-    (Decides-like _ (λ d. (d.0, from d.1)) (λ d. (d.0, to d.1)) (digits_decide limit ds))
+    (Decides-like _ (λ d. (d.0, says.1 d.1)) (λ d. (d.0, says.0 d.1)) (digits_decide limit ds))
 
 -- the digits of a number below the limit are read as that number
 decimal_some : (limit : ℕ) (code : ℕ → List ℕ) (n : ℕ) → n < 2 ^ 64 → n < limit
@@ -142,7 +146,7 @@ unsigned_reads : (bits : ℕ) (bs : List ℕ)
     → ReadsIf (IsNumeral 10 (without_leading_plus bs) × (digits_value 10 (without_leading_plus bs) < 2 ^ bits))
     (read_unsigned bits bs) (of_nat (digits_value 10 (without_leading_plus bs)))
 unfolding read_unsigned
-unsigned_reads bits bs = digits_read (2 ^ bits) of_nat (without_leading_plus bs) _ (λ h. h) (λ h. h)
+unsigned_reads bits bs = digits_read (2 ^ bits) of_nat (without_leading_plus bs) (λ h. h, λ h. h)
 
 -- the digits of an unsigned integer of so many bits, at most 64, are parsed as that integer
 pub unsigned-back : (bits : ℕ) → 2 ^ bits ≤ 2 ^ 64 → (n : ℕ) → n < 2 ^ bits
@@ -154,7 +158,7 @@ unsigned-back bits wide n h =
 -- what std's `parse` returns is what the text is read as
 pub unsigned-parses : {E : Type 0} (bits : ℕ) (bs : List ℕ) (r : Result ℕ E) → ParsesUnsigned bits 10 bs r
     → MatchResult r (λ n. read_unsigned bits bs ≡ Some (of_nat n)) (λ _. read_unsigned bits bs ≡ None)
-unsigned-parses bits bs r gives = as_read of_nat _ _ r (unsigned_reads bits bs) gives
+unsigned-parses bits bs r gives = as_read of_nat r (unsigned_reads bits bs) gives
 
 -- ---- signed integers
 
@@ -184,9 +188,9 @@ reads_by : (w : Width) (minus : Bool) (ds ps : List ℕ)
     → ReadsIf (IsNumeral 10 (cond minus ds ps) × FitsSigned w (signed_by minus (cond minus ds ps)))
     (read_by w minus ds ps) (of_int (signed_by minus (cond minus ds ps)))
 reads_by w true ds ps =
-    digits_read (2 ^ hbits w + 1) (λ n. of_int (neg_ℤ (pos n))) ds _ (fits_negated w _) (negated_fits w _)
+    digits_read (2 ^ hbits w + 1) (λ n. of_int (neg_ℤ (pos n))) ds (fits_negated w _, negated_fits w _)
 reads_by w false ds ps =
-    digits_read (2 ^ hbits w) (λ n. of_int (pos n)) ps _ (λ f. f.sfits) (λ h. record { sfits = h })
+    digits_read (2 ^ hbits w) (λ n. of_int (pos n)) ps (λ f. f.sfits, λ h. record { sfits = h })
 
 -- the text bs is read as its number, if it is digits after a sign or none and the number fits the type
 abbrev ReadsSigned : ℕ → Width → List ℕ → Type 0
@@ -194,29 +198,30 @@ ReadsSigned bits w bs =
     ReadsIf (IsNumeral 10 (without_leading_sign bs) × FitsSigned w (signed_digits_value 10 bs))
     (read_signed bits bs) (of_int (signed_digits_value 10 bs))
 
-signed_reads : (bits : ℕ) (w : Width) → hbits w ≡ bits - 1 → (bs : List ℕ) → ReadsSigned bits w bs
+signed_reads : {bits : ℕ} {w : Width} → HasBits w bits → (bs : List ℕ) → ReadsSigned bits w bs
 unfolding read_signed
-signed_reads bits w e bs = rw (sym e) (reads_by w (starts_with_minus bs) (drop 1 bs) (without_leading_plus bs))
+signed_reads {w = w} has bs =
+    rw (sym has.besides_sign) (reads_by w (starts_with_minus bs) (drop 1 bs) (without_leading_plus bs))
 
 -- the text of a signed integer of so many bits, at most 64, is parsed as that integer
-pub signed-back : (bits : ℕ) (w : Width) → hbits w ≡ bits - 1 → 2 ^ hbits w ≤ 2 ^ 63 → (n : ℤ) → FitsSigned w n
+pub signed-back : {bits : ℕ} {w : Width} → HasBits w bits → (n : ℤ) → FitsSigned w n
     → read_signed bits (signed_decimal n) ≡ Some (of_int n)
 unfolding read_signed
-signed-back bits w e wide (pos n) h =
+signed-back {w = w} has (pos n) h =
     let below : n < 2 ^ hbits w = h.sfits in
-    let small : n < 2 ^ 64 = omega arith in
+    let small : n < 2 ^ 64 = omega (arith, has.at_most_64) in
     let own = decimal_some (2 ^ hbits w) (λ n. of_int (pos n)) n small below in
-    rw (sym e, no_minus n small, no_plus n small) own
-signed-back bits w e wide (negsuc n) h =
+    rw (sym has.besides_sign, no_minus n small, no_plus n small) own
+signed-back {w = w} has (negsuc n) h =
     let below : n < 2 ^ hbits w = h.sfits in
-    let own = decimal_some (2 ^ hbits w + 1) (λ n. of_int (neg_ℤ (pos n))) (suc n) (omega arith) (omega arith) in
-    rw (sym e) own
+    let own = decimal_some (2 ^ hbits w + 1) (λ n. of_int (neg_ℤ (pos n))) (suc n) (omega (arith, has.at_most_64)) (omega arith) in
+    rw (sym has.besides_sign) own
 
 -- what std's `parse` returns is what the text is read as
-pub signed-parses : {E : Type 0} (bits : ℕ) (w : Width) → hbits w ≡ bits - 1 → (bs : List ℕ) (r : Result ℤ E)
+pub signed-parses : {E : Type 0} {bits : ℕ} {w : Width} → HasBits w bits → (bs : List ℕ) (r : Result ℤ E)
     → ParsesSigned w 10 bs r
     → MatchResult r (λ n. read_signed bits bs ≡ Some (of_int n)) (λ _. read_signed bits bs ≡ None)
-signed-parses bits w e bs r gives = as_read of_int _ _ r (signed_reads bits w e bs) gives
+signed-parses has bs r gives = as_read of_int r (signed_reads has bs) gives
 
 -- ---- characters
 

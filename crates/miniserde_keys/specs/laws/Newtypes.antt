@@ -1,5 +1,5 @@
 -- The laws of std's types of keys, for newtypes of them: the impl of a newtype cannot cite the impl of the type inside.
-use Rattle.std.proofs.Common.{◌≡◌, ◌<◌, ◌≤◌, ◌^◌, ◌-◌, ℕ, Bool, true, false, List, Option, Some, None, cond, nat_eq}
+use Rattle.std.proofs.Common.{◌≡◌, ◌<◌, ◌≤◌, ◌^◌, ℕ, Bool, true, false, List, Option, Some, None, cond, nat_eq}
 use Rattle.std.proofs.Common.{refl, sym, ap, ◌∙◌, arith}
 use Rattle.std.specs.Prelude.{⊤, decimal, option_and_then}
 use Rattle.std.specs.Bool.{beq}
@@ -10,10 +10,10 @@ use Rattle.std.specs.Int.RustNames.{FitsSigned}
 use Rattle.std.specs.Fmt.{signed_decimal}
 use Rattle.std.specs.Str.{bytes_eq}
 use mir.Syntax.{Width}
-use mir.Val.{hbits}
 use Rattle.miniserde_keys.specs.Keys.{Key, of_nat, of_int, of_bool, read_unsigned, read_signed, read_bool, read_char, bool_text}
+use Rattle.miniserde_keys.specs.laws.Bits.{HasBits, i8_bits, i16_bits, i32_bits, i64_bits}
 use Rattle.miniserde_keys.specs.laws.Keys.{nat-alike, nat-text, unsigned-back, int-alike, int-same, signed-back}
-use Rattle.miniserde_keys.specs.laws.Keys.{bool-alike, bool-text, char_some}
+use Rattle.miniserde_keys.specs.laws.Keys.{bool-alike, bool-text, char_some, ReadsOneName}
 
 -- the laws of a type of keys of which `Eq` compares the whole content
 pub record KeyLaws {K : Type 0} (eq : K → K → Bool) (valid : K → Type 0) (content : K → Key)
@@ -51,25 +51,25 @@ usize_key_laws = u64_key_laws
 abbrev pub SignedLaws : ℕ → Width → Type 0
 SignedLaws bits w = KeyLaws int_eq (FitsSigned w) of_int (read_signed bits) signed_decimal
 
-signed_key : (bits : ℕ) (w : Width) → hbits w ≡ bits - 1 → 2 ^ hbits w ≤ 2 ^ 63 → SignedLaws bits w
-signed_key bits w e h = record {
+signed_key : {bits : ℕ} {w : Width} → HasBits w bits → SignedLaws bits w
+signed_key has = record {
   alike = int-alike;
-  back = signed-back bits w e h;
+  back = signed-back has;
   one_text = λ a b same. ap signed_decimal (int-same a b same);
 }
 
 -- each signed type's laws, by its width
 pub i8_key_laws : SignedLaws 8 w8
-i8_key_laws = signed_key 8 w8 refl (omega arith)
+i8_key_laws = signed_key i8_bits
 
 pub i16_key_laws : SignedLaws 16 w16
-i16_key_laws = signed_key 16 w16 refl (omega arith)
+i16_key_laws = signed_key i16_bits
 
 pub i32_key_laws : SignedLaws 32 w32
-i32_key_laws = signed_key 32 w32 refl (omega arith)
+i32_key_laws = signed_key i32_bits
 
 pub i64_key_laws : SignedLaws 64 w64
-i64_key_laws = signed_key 64 w64 refl (omega arith)
+i64_key_laws = signed_key i64_bits
 
 pub isize_key_laws : SignedLaws 64 w64
 isize_key_laws = i64_key_laws
@@ -96,6 +96,5 @@ only true c d e = cc
 only false c d e = absurd (cc)
 
 -- names that are read as equal texts which the check accepts are equal
-pub checked-exact : (accepts : Key → Bool) (n m c d : Key) → cond (accepts n) (Some n) None ≡ Some c
-    → cond (accepts m) (Some m) None ≡ Some d → c ≡ d → n ≡ m
+pub checked-exact : (accepts : Key → Bool) → ReadsOneName (λ n. cond (accepts n) (Some n) None) (λ c. c)
 checked-exact accepts n m c d p q e = only (accepts n) n c p ∙ e ∙ sym (only (accepts m) m d q)

@@ -4,11 +4,11 @@ use Rattle.std.proofs.Common.{◌≡◌, ◌<◌, ◌^◌, ◌-◌, ℕ, ℤ, po
 use Rattle.std.specs.Prelude.{Bool, FitsSigned, ⊤}
 use Rattle.std.proofs.lemmas.Bool.Decides.{nat_tests}
 use mir.Syntax.{Width}
-use mir.Val.{hbits}
 use Rattle.miniserde_model.specs.Tree.{Tree, null, truth, nonneg, str}
 use Rattle.miniserde_read.specs.types.Integers.{fits_signed, ReadsUnsigned, ReadsSigned}
 use Rattle.miniserde_keys.specs.Integers.{integer}
-use Rattle.miniserde_laws.specs.RoundTrip.{RoundTrips}
+use Rattle.miniserde_keys.specs.laws.Bits.{HasBits}
+use Rattle.miniserde_laws.specs.RoundTrip.{RoundTrips, IsLossless}
 
 -- ---- the tree of a value is read back
 
@@ -32,31 +32,31 @@ passes : (k n : ℕ) → n < k → nat_lt n k ≡ true
 passes k n h = grind (arith, nat_tests)
 
 -- a number of a signed type passes its test
-signed-valid : (bits : ℕ) (w : Width) → hbits w ≡ bits - 1 → (z : ℤ) → FitsSigned w z → fits_signed bits z ≡ true
-signed-valid bits w e (pos n) h = passes (2 ^ (bits - 1)) n (subst (λ k. n < 2 ^ k) e h.sfits)
-signed-valid bits w e (negsuc n) h = passes (2 ^ (bits - 1)) n (subst (λ k. n < 2 ^ k) e h.sfits)
+signed-valid : {bits : ℕ} {w : Width} → HasBits w bits → (z : ℤ) → FitsSigned w z → fits_signed bits z ≡ true
+signed-valid {bits = bits} has (pos n) h = passes (2 ^ (bits - 1)) n (subst (λ k. n < 2 ^ k) has.besides_sign h.sfits)
+signed-valid {bits = bits} has (negsuc n) h = passes (2 ^ (bits - 1)) n (subst (λ k. n < 2 ^ k) has.besides_sign h.sfits)
 
 -- the tree of a signed integer in range means one, and each one that it means has that tree
-pub signed-round_trips : (bits : ℕ) (w : Width) → hbits w ≡ bits - 1 → (z : ℤ) → FitsSigned w z
+pub signed-round_trips : {bits : ℕ} {w : Width} → HasBits w bits → (z : ℤ) → FitsSigned w z
     → RoundTrips (FitsSigned w) integer (ReadsSigned bits) (integer z)
-signed-round_trips bits w e z h = ((z, h, integer-read bits z (signed-valid bits w e z h)), λ v r i. integer-same bits z v i)
+signed-round_trips {bits = bits} has z h = ((z, h, integer-read bits z (signed-valid has z h)), λ v r i. integer-same bits z v i)
 
 -- ---- no two values have one tree
 
 -- booleans with equal trees are equal
-pub boolean-same : (v w : Bool) → ⊤ → ⊤ → truth v ≡ truth w → v ≡ w
+pub boolean-same : IsLossless (λ _. ⊤) truth (λ b. b)
 boolean-same v w r s e = cc
 
 -- texts with equal trees have equal bytes
-pub text-same : {T : Type 0} (bytes : T → List ℕ) (v w : T) → ⊤ → ⊤ → str (bytes v) ≡ str (bytes w) → bytes v ≡ bytes w
+pub text-same : {T : Type 0} (bytes : T → List ℕ) → IsLossless (λ _. ⊤) (λ v. str (bytes v)) bytes
 text-same bytes v w r s e = cc
 
 -- unsigned integers with equal trees have equal contents
-pub unsigned-same : (bits v w : ℕ) → v < 2 ^ bits → w < 2 ^ bits → nonneg v ≡ nonneg w → pos v ≡ pos w
+pub unsigned-same : (bits : ℕ) → IsLossless (λ n. n < 2 ^ bits) nonneg (λ n. pos n)
 unsigned-same bits v w r s e = let i : v ≡ w = cc in ap pos i
 
 -- signed integers with equal trees are equal
-pub signed-same : (w : Width) (v u : ℤ) → FitsSigned w v → FitsSigned w u → integer v ≡ integer u → v ≡ u
+pub signed-same : (w : Width) → IsLossless (FitsSigned w) integer (λ z. z)
 signed-same w (pos n) (pos m) r s e = let i : n ≡ m = cc in ap pos i
 signed-same w (pos n) (negsuc m) r s e = absurd (cc)
 signed-same w (negsuc n) (pos m) r s e = absurd (cc)

@@ -7,7 +7,7 @@ use Rattle.miniserde_model.specs.Position.{start}
 use Rattle.miniserde_model.proofs.Events.{events_complete}
 use Rattle.miniserde_place.specs.Container.{between_children, inside_child, after_opening}
 use Rattle.miniserde_place.specs.laws.Container.{inside-split}
-use Rattle.miniserde_read.specs.types.Objects.{Name, after_members, object_of}
+use Rattle.miniserde_read.specs.types.Objects.{Name, MemberStep, after_members, object_of}
 use Rattle.miniserde_places.specs.Objects.{object_rules}
 
 -- the events of the members and of the end begin with some event
@@ -15,7 +15,7 @@ begins : (ms : Members) → (e : Step) × (es : List Step) × (member_events ms 
 begins no_members = (finish, [], refl)
 begins (member k t ms) = (key k, (events t ++ member_events ms) ++ finish ∷ [], refl)
 
-module _ {S R : Type 0} (child : S → Name → List Step → Option S) (child_of : S → Name → Tree → Option S)
+module _ {S R : Type 0} (child : MemberStep S (List Step)) (child_of : MemberStep S Tree)
     (ends : S → Option R) (same : (s : S) (k : Name) (t : Tree) → child s k (events t) ≡ child_of s k t) where
   between-events : (s : S) (ms : Members)
       → between_children (object_rules child ends) s (member_events ms ++ finish ∷ []) ≡ option_and_then ends

@@ -1,10 +1,11 @@
 -- An integer's tree gives the number that it means.
 use Rattle.std.proofs.Common.{◌≡◌, ◌<◌, ◌^◌, ℕ, ℤ, pos, Bool, true, false, cond, Some, None, nat_lt, refl, sym, ap, subst, ltb-true, arith}
-use Rattle.std.specs.Prelude.{◌↔◌, ◌-◌, negsuc, Result, OkIff, MatchResult, FitsSigned}
+use Rattle.std.specs.Prelude.{◌↔◌, negsuc, Result, OkIff, MatchResult, FitsSigned}
 use Rattle.std.specs.Bool.{Decides}
 use Rattle.std.proofs.lemmas.Bool.Decides.{nat_tests, Decides-like, Decides-ltb}
 use mir.Syntax.{Width}
 use mir.Val.{hbits}
+use Rattle.miniserde_keys.specs.laws.Bits.{HasBits}
 use Rattle.miniserde_keys.specs.laws.Keys.{as_read, reads_if}
 use Rattle.miniserde_model.specs.Tree.{Tree, null, truth, nonneg, neg, num, str, list, members}
 use Rattle.miniserde_read.specs.types.Integers.{fits_signed, unsigned_of, signed_of, ReadsUnsigned, ReadsSigned}
@@ -67,25 +68,25 @@ module _ (bits : ℕ) where
 unsigned_decides : (bits n : ℕ) → Decides (nat_lt n (2 ^ bits)) (n < 2 ^ bits)
 unsigned_decides bits n = Decides-ltb n (2 ^ bits)
 
-signed_decides : (bits : ℕ) (w : Width) → hbits w ≡ bits - 1 → (z : ℤ) → Decides (fits_signed bits z) (FitsSigned w z)
-signed_decides bits w e (pos n) =
-    rw (sym e) (Decides-like _ (λ h. record { sfits = h }) (λ f. f.sfits) (Decides-ltb n (2 ^ hbits w)))
-signed_decides bits w e (negsuc n) =
-    rw (sym e) (Decides-like _ (λ h. record { sfits = h }) (λ f. f.sfits) (Decides-ltb n (2 ^ hbits w)))
+signed_decides : {bits : ℕ} {w : Width} → HasBits w bits → (z : ℤ) → Decides (fits_signed bits z) (FitsSigned w z)
+signed_decides {w = w} has (pos n) =
+    rw (sym has.besides_sign) (Decides-like _ (λ h. record { sfits = h }) (λ f. f.sfits) (Decides-ltb n (2 ^ hbits w)))
+signed_decides {w = w} has (negsuc n) =
+    rw (sym has.besides_sign) (Decides-like _ (λ h. record { sfits = h }) (λ f. f.sfits) (Decides-ltb n (2 ^ hbits w)))
 
 -- an unsigned type takes a number without a minus as `try_from` does
 pub unsigned-gives : {E : Type 0} (bits n : ℕ) (r : Result ℕ E) → OkIff r (n < 2 ^ bits) n
     → MatchResult r (λ v. unsigned_of bits (nonneg n) ≡ Some (pos v)) (λ _. unsigned_of bits (nonneg n) ≡ None)
-unsigned-gives bits n r gives = as_read (λ v. pos v) _ n r (reads_if _ _ (unsigned_decides bits n)) gives
+unsigned-gives bits n r gives = as_read (λ v. pos v) r (reads_if _ _ (unsigned_decides bits n)) gives
 
 -- a signed type takes a number without a minus as `try_from` does
-pub signed-gives : {E : Type 0} (bits : ℕ) (w : Width) → hbits w ≡ bits - 1 → (n : ℕ) (r : Result ℤ E)
+pub signed-gives : {E : Type 0} {bits : ℕ} {w : Width} → HasBits w bits → (n : ℕ) (r : Result ℤ E)
     → OkIff r (FitsSigned w (pos n)) (pos n)
     → MatchResult r (λ v. signed_of bits (nonneg n) ≡ Some v) (λ _. signed_of bits (nonneg n) ≡ None)
-signed-gives bits w e n r gives = as_read (λ v. v) _ (pos n) r (reads_if _ _ (signed_decides bits w e (pos n))) gives
+signed-gives has n r gives = as_read (λ v. v) r (reads_if _ _ (signed_decides has (pos n))) gives
 
 -- and so it takes a number with a minus
-pub signed-minus_gives : {E : Type 0} (bits : ℕ) (w : Width) → hbits w ≡ bits - 1 → (z : ℤ) (r : Result ℤ E)
+pub signed-minus_gives : {E : Type 0} {bits : ℕ} {w : Width} → HasBits w bits → (z : ℤ) (r : Result ℤ E)
     → OkIff r (FitsSigned w z) z
     → MatchResult r (λ v. signed_of bits (neg z) ≡ Some v) (λ _. signed_of bits (neg z) ≡ None)
-signed-minus_gives bits w e z r gives = as_read (λ v. v) _ z r (reads_if _ _ (signed_decides bits w e z)) gives
+signed-minus_gives has z r gives = as_read (λ v. v) r (reads_if _ _ (signed_decides has z)) gives

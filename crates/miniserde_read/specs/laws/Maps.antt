@@ -6,7 +6,7 @@ use Rattle.miniserde_model.specs.Tree.{Tree, null, truth, nonneg, neg, num, str,
 use Rattle.miniserde_keys.specs.Keys.{Key}
 use Rattle.miniserde_read.specs.types.Objects.{Name, after_members}
 use Rattle.miniserde_read.specs.types.Maps.{key_at, first_and_last, first_and_last_at, AllAccepted, entry_at}
-use Rattle.miniserde_read.specs.types.Maps.{EntryFits, MapReads, MapContent, no_entries, present_key_or, with_entry}
+use Rattle.miniserde_read.specs.types.Maps.{key_meaning, EntryFits, MapReads, MapContent, no_entries, present_key_or, with_entry}
 use Rattle.miniserde_read.specs.types.Maps.{map_content, map_member, map_of}
 
 -- ---- what the tree means
@@ -112,7 +112,7 @@ module _ {K V C : Type 0} (read : Name → Option Key) (code : Key → Key) (con
         | Some d ↦ λ k g. let p = same_Some _ _ g in (sym (ap (λ z. z.0) p), (given t.1 e.1).1 (k ∙ ap (λ z. Some z.1) p))
       ] refl h
 
-  pub map-given : (t : Tree) (es : List (K × V)) → MapReads read code content of R t es
+  pub map-given : (t : Tree) (es : List (K × V)) → MapReads (key_meaning read code content) of R t es
       ↔ (map_of read code of t ≡ Some (map_content code content value es))
   map-given null es = (λ h. absurd h, λ h. absurd (cc))
   map-given (truth b) es = (λ h. absurd h, λ h. absurd (cc))

@@ -5,7 +5,7 @@ use Rattle.std.specs.Prelude.{List, [], ◌∷◌, Option, Some, None, option_an
 use Rattle.std.specs.Prelude.{⊤, if◌then◌else◌, true, false, codes, refl}
 use Rattle.miniserde_model.specs.Tree.{Tree, members, Members, no_members, member, null, truth}
 use Rattle.miniserde_keys.specs.Keys.{Key}
-use Rattle.miniserde_read.specs.types.Objects.{Name, object_of, after_members}
+use Rattle.miniserde_read.specs.types.Objects.{Name, MemberStep, object_of, after_members}
 use Rattle.miniserde_read.specs.types.Words.{boolean_of}
 
 -- how the keys K of a map are read and compared; `content` returns the content of a key
@@ -55,15 +55,15 @@ EntryFits content R None (Some e) = ⊥
 EntryFits content R (Some p) None = ⊥
 EntryFits content R (Some p) (Some e) = (content e.0 ≡ p.0) × R p.1 e.1
 
--- The tree is an object, of which each member is accepted (`AllAccepted`). At each code q, es has an entry exactly if
--- the object has a member whose key has that code. The entry then has the key of the first such member, and the tree
--- of the last one means its value by R.
-abbrev pub MapReads : {K V C : Type 0} → (Name → Option Key) → (Key → Key) → (K → Key) → (Tree → Option C)
-    → (Tree → V → Type 0) → Tree → List (K × V) → Type 0
-MapReads read code content of R (members ms) es =
-    AllAccepted read of ms × ((q : Key)
-    → EntryFits content R (first_and_last_at read code q ms) (entry_at (λ k. code (content k)) q es))
-MapReads read code content of R _ es = ⊥
+-- The tree is an object, of which each member is accepted (`AllAccepted`), with keys by m. At each code q, es has an
+-- entry exactly if the object has a member whose key has that code. The entry then has the key of the first such
+-- member, and the tree of the last one means its value by R.
+abbrev pub MapReads : {K V C : Type 0} → KeyMeaning K → (Tree → Option C) → (Tree → V → Type 0) → Tree → List (K × V)
+    → Type 0
+MapReads m of R (members ms) es =
+    AllAccepted m.read of ms × ((q : Key)
+    → EntryFits m.content R (first_and_last_at m.read m.code q ms) (entry_at (λ k. m.code (m.content k)) q es))
+MapReads m of R _ es = ⊥
 
 -- ---- maps, member by member
 
@@ -90,8 +90,7 @@ map_content code content value es q = option_map (λ e. (content e.0, value e.1)
 
 -- the content m of a map with one more member, if `read` returns a key for its name k and f a
 -- content for its value x, which is a tree or the events of one
-abbrev pub map_member : {C X : Type 0} → (Name → Option Key) → (Key → Key) → (X → Option C) → MapContent C → Name
-    → X → Option (MapContent C)
+abbrev pub map_member : {C X : Type 0} → (Name → Option Key) → (Key → Key) → (X → Option C) → MemberStep (MapContent C) X
 map_member read code f m k x = option_and_then (λ c. option_map (with_entry code m c) (f x)) (read k)
 
 -- the content of the map that an object means, by `read` and `code`, and by `of` for the trees of its members

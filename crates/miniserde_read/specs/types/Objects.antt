@@ -6,8 +6,13 @@ use Rattle.miniserde_model.specs.Tree.{Tree, members, Members, no_members, membe
 abbrev pub Name : Type 0
 Name = List ℕ
 
+-- the state after one more member, if there is one: a function of the state before it, the member's name, and its
+-- value, which is an X
+abbrev pub MemberStep : Type 0 → Type 0 → Type 0
+MemberStep S X = S → Name → X → Option S
+
 -- the state after all the members, from the state s on, if f returns a state after each of them
-abbrev pub after_members : {S : Type 0} → (S → Name → Tree → Option S) → S → Members → Option S
+abbrev pub after_members : {S : Type 0} → MemberStep S Tree → S → Members → Option S
 after_members f s no_members = Some s
 after_members f s (member k t ms) = option_and_then (λ r. after_members f r ms) (f s k t)
 

@@ -1,9 +1,9 @@
 //! Reads integers from single tokens. An unsigned type takes no number with a minus, not even `-0`.
 //! `usize` and `isize` have 64 bits.
 ghost use Rattle.std.specs.Prelude.{◌≡◌, ℕ, ℤ, true, false, Some, None, Result, MatchResult, IfOk, IfErr, refl};
-ghost use Rattle.std.specs.Int.{w8, w16, w32, w64};
 ghost use Rattle.miniserde_model.specs.Tree.{nonneg, neg};
 ghost use Rattle.miniserde_model.specs.declared.error.Error.{Error};
+ghost use Rattle.miniserde_keys.specs.laws.Bits.{i8_bits, i16_bits, i32_bits, i64_bits};
 ghost use Rattle.miniserde_read.specs.Meaning.{Meaning};
 ghost use Rattle.miniserde_read.specs.Events.{OnlyIntegers};
 ghost use Rattle.miniserde_read.specs.Meanings.{unsigned_meaning, signed_meaning};
@@ -133,9 +133,9 @@ impl IntegerLeaf for i8 {
 
     ghost only_integers = { (refl, λ b. refl, λ x. refl, λ s. refl, (λ ts. refl, λ ms. refl)) };
 
-    ghost nonnegative = { signed-gives 8 w8 refl };
+    ghost nonnegative = { signed-gives i8_bits };
 
-    ghost negative = { λ z r gives signed. signed-minus_gives 8 w8 refl z r gives };
+    ghost negative = { λ z r gives signed. signed-minus_gives i8_bits z r gives };
 
     ghost never_negative = { λ z unsigned. Prim.absurd (cc) };
 }
@@ -145,9 +145,9 @@ impl IntegerLeaf for i16 {
 
     ghost only_integers = { (refl, λ b. refl, λ x. refl, λ s. refl, (λ ts. refl, λ ms. refl)) };
 
-    ghost nonnegative = { signed-gives 16 w16 refl };
+    ghost nonnegative = { signed-gives i16_bits };
 
-    ghost negative = { λ z r gives signed. signed-minus_gives 16 w16 refl z r gives };
+    ghost negative = { λ z r gives signed. signed-minus_gives i16_bits z r gives };
 
     ghost never_negative = { λ z unsigned. Prim.absurd (cc) };
 }
@@ -157,9 +157,9 @@ impl IntegerLeaf for i32 {
 
     ghost only_integers = { (refl, λ b. refl, λ x. refl, λ s. refl, (λ ts. refl, λ ms. refl)) };
 
-    ghost nonnegative = { signed-gives 32 w32 refl };
+    ghost nonnegative = { signed-gives i32_bits };
 
-    ghost negative = { λ z r gives signed. signed-minus_gives 32 w32 refl z r gives };
+    ghost negative = { λ z r gives signed. signed-minus_gives i32_bits z r gives };
 
     ghost never_negative = { λ z unsigned. Prim.absurd (cc) };
 }
@@ -169,9 +169,9 @@ impl IntegerLeaf for i64 {
 
     ghost only_integers = { (refl, λ b. refl, λ x. refl, λ s. refl, (λ ts. refl, λ ms. refl)) };
 
-    ghost nonnegative = { signed-gives 64 w64 refl };
+    ghost nonnegative = { signed-gives i64_bits };
 
-    ghost negative = { λ z r gives signed. signed-minus_gives 64 w64 refl z r gives };
+    ghost negative = { λ z r gives signed. signed-minus_gives i64_bits z r gives };
 
     ghost never_negative = { λ z unsigned. Prim.absurd (cc) };
 }
@@ -181,9 +181,9 @@ impl IntegerLeaf for isize {
 
     ghost only_integers = { (refl, λ b. refl, λ x. refl, λ s. refl, (λ ts. refl, λ ms. refl)) };
 
-    ghost nonnegative = { signed-gives 64 w64 refl };
+    ghost nonnegative = { signed-gives i64_bits };
 
-    ghost negative = { λ z r gives signed. signed-minus_gives 64 w64 refl z r gives };
+    ghost negative = { λ z r gives signed. signed-minus_gives i64_bits z r gives };
 
     ghost never_negative = { λ z unsigned. Prim.absurd (cc) };
 }

@@ -6,11 +6,10 @@ use Rattle.std.specs.Str.{chars, encode_utf8_all, is_utf8}
 use Rattle.std.proofs.lemmas.Slice.Eq.{bytes_eq-Decides}
 use Rattle.std.proofs.lemmas.Str.{IsUtf8-from_is_utf8, encodes-chars}
 use Rattle.miniserde_keys.specs.Keys.{Key, of_nat, of_bool, bool_text, read_bool, single_char, read_char}
-use Rattle.miniserde_keys.specs.laws.Keys.{bool-text, nat-text}
+use Rattle.miniserde_keys.specs.laws.Keys.{bool-text, nat-text, ReadsOneName}
 
 -- names that are read as equal `String` keys are equal
-pub text-exact : (n m : List ℕ) (c d : Key) → ◌≡◌ {A = Option Key} (Some n) (Some c)
-    → ◌≡◌ {A = Option Key} (Some m) (Some d) → c ≡ d → n ≡ m
+pub text-exact : ReadsOneName (λ n. Some n) (λ c. c)
 text-exact n m c d p q e = cc
 
 bool-named : (n : List ℕ) (c : Key) → read_bool n ≡ Some c → (b : Bool) × (n ≡ bool_text b) × (c ≡ of_bool b)
@@ -28,7 +27,7 @@ bool-named n c e = elim (bytes_eq n (bool_text true))
     ] refl e
 
 -- names that are read as equal `bool` keys are equal
-pub bool-exact : (n m : List ℕ) (c d : Key) → read_bool n ≡ Some c → read_bool m ≡ Some d → c ≡ d → n ≡ m
+pub bool-exact : ReadsOneName read_bool (λ c. c)
 bool-exact n m c d p q e =
     let a = bool-named n c p in
     let b = bool-named m d q in
@@ -49,7 +48,7 @@ char-named n c e = elim (is_utf8 n) as (λ b. is_utf8 n ≡ b → cond b (single
     ] refl e
 
 -- names that are read as equal `char` keys are equal
-pub char-exact : (n m : List ℕ) (c d : Key) → read_char n ≡ Some c → read_char m ≡ Some d → c ≡ d → n ≡ m
+pub char-exact : ReadsOneName read_char (λ c. c)
 char-exact n m c d p q e =
     let a = char-named n c p in
     let b = char-named m d q in

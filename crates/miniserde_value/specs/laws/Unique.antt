@@ -96,13 +96,18 @@ both_so true b o = refl
 both_so false b o = refl
 
 -- the tests of a member's name and tree and of the members after it, in another order
-regrouped : (new d ds unlike rest : Bool) (o : Option Tree) → if_so new (if_so d (if_so (ds && (unlike && rest)) o))
-    ≡ if_so ((unlike && (d && ds)) && (new && rest)) o
-regrouped true true true unlike rest o = elim unlike as (λ b. if_so (b && rest) o ≡ if_so ((b && true) && rest) o)
-    [ true ↦ refl | false ↦ refl ]
-regrouped true true false unlike rest o = elim unlike as (λ b. None ≡ if_so ((b && false) && rest) o) [ true ↦ refl | false ↦ refl ]
-regrouped true false ds unlike rest o = elim unlike as (λ b. None ≡ if_so ((b && false) && rest) o) [ true ↦ refl | false ↦ refl ]
-regrouped false d ds unlike rest o = elim (unlike && (d && ds)) as (λ b. None ≡ if_so (b && false) o) [ true ↦ refl | false ↦ refl ]
+regrouped : (new d ds unlike rest : Bool)
+    → (new && (d && (ds && (unlike && rest)))) ≡ ((unlike && (d && ds)) && (new && rest))
+regrouped true true true true rest = refl
+regrouped true true true false rest = refl
+regrouped true true false true rest = refl
+regrouped true true false false rest = refl
+regrouped true false ds true rest = refl
+regrouped true false ds false rest = refl
+regrouped false true true true rest = refl
+regrouped false true false true rest = refl
+regrouped false false ds true rest = refl
+regrouped false d ds false rest = refl
 
 repeated : (b : Bool) (x : Bool × Hole) (f : Bool × Hole → Option Tree) → option_and_then f (cond b None (Some x)) ≡ if_so (not b) (f x)
 repeated true x f = refl
@@ -155,7 +160,10 @@ mutual
       ∙ ap (λ b. if_so (names_distinct_in_members ms && b)
       (outcome true false (in_members (put_retained (put_member n (retained_tree t) made) ms) None h) rest))
       (all_new_put n (retained_tree t) made ms)))
-      ∙ regrouped (not (has_name n made)) (names_distinct t) (names_distinct_in_members ms) (not (has_name n ms)) (all_new made ms) _
+      ∙ ap (if_so (not (has_name n made))) (both_so (names_distinct t) _ _)
+      ∙ both_so (not (has_name n made)) _ _
+      ∙ ap (λ b. if_so b (outcome true false (in_members (put_retained made (member n t ms)) None h) rest))
+      (regrouped (not (has_name n made)) (names_distinct t) (names_distinct_in_members ms) (not (has_name n ms)) (all_new made ms))
 
   all_fresh : (b : Bool) (ms : Members) → (b && all_new no_members ms) ≡ b
   all_fresh true no_members = refl
