@@ -15,11 +15,9 @@ pub returns : goal.returns
 returns c (members ms) s =
     let h = host.ghosts.means in
     let t = tls.ghosts.means in
-    let r3 = says (option_of t.from_tree) (None ≡ option_map t.content s.tls) (s.tls ≡ None)
-    (λ u. OptionReads t.reads u s.tls) (λ u. OptionReads IsTls u s.tls)
-    (λ u. optional c.parts_meant.ensures.tls u s.tls) (none_counts t.content s.tls) (codes "tls") ms in
-    let r4 = says (list_of h.from_tree) ⊥ ⊥ (λ u. ListReads h.reads u s.hosts.items)
-    (λ u. ListReads IsHost u s.hosts.items) (λ u. items c.parts_meant.ensures.host u s.hosts.items)
+    let r3 = says (option_of t.from_tree) (λ u. optional c.parts_meant.ensures.tls u s.tls) (none_counts t.content s.tls)
+    (codes "tls") ms in
+    let r4 = says {absent = ⊥} {missing = ⊥} (list_of h.from_tree) (λ u. items c.parts_meant.ensures.host u s.hosts.items)
     (λ h. h, λ h. h) (codes "hosts") ms in (
       λ r. (r.0, r.1.0, r3.0 r.1.1.0, r4.0 r.1.1.1.0, r.1.1.1.1.0),
       λ r. (r.0, (r.1, (r3.1 r.2, (r4.1 r.3, (r.4, tt))))),
