@@ -111,12 +111,25 @@ pub first_apart : (ns : List Name) → are_distinct (first_alone ns) ≡ true
 first_apart [] = refl
 first_apart (n ∷ ns) = refl
 
+-- a field of the type T
+pub record FieldOf (T : Type 0) : Type 1 where
+  -- whether a second member of the field's name is an error
+  pub once : Bool
+  -- the tree that stands for a missing member, if there is one
+  pub given : Option Tree
+  -- the meaning of the field's type
+  pub means : Meaning T
+  -- the value of a missing field without such a tree, if it has one
+  pub absent : Option T
+
 -- If members mean a value of a field (`FieldReads`), the field has one by itself. So they mean none of a field that is
 -- wrong.
-pub read_alone : {T : Type 0} (m : Meaning T) (once : Bool) (given : Option Tree) (absent : Option T) (n : Name) (ms : Members) (v : T)
-    → FieldReads false (value_rule once given m absent) n ms v → IsSome (alone (field_rule once given m absent) (n ∷ []) (members ms))
-read_alone m once given absent n ms v h =
-    let e = ((field_and once given m absent no_fields).reads_agrees [] (n ∷ []) ms (v, tt {0})).0 (h, tt {0}) in
+pub read_alone : {T : Type 0} (field : FieldOf T) (n : Name) (ms : Members) (v : T)
+    → FieldReads false (value_rule field.once field.given field.means field.absent) n ms v
+    → IsSome (alone (field_rule field.once field.given field.means field.absent) (n ∷ []) (members ms))
+read_alone field n ms v h =
+    let all = field_and field.once field.given field.means field.absent no_fields in
+    let e = (all.reads_agrees [] (n ∷ []) ms (v, tt {0})).0 (h, tt {0}) in
     subst (λ o. IsSome o) (sym e) refl
 
 -- Worked cases: of a required text `a`, an object with a text `a` gives this text, whatever else it has; one whose
