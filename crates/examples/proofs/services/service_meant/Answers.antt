@@ -1,8 +1,8 @@
 -- A tree means a service exactly if `IsService` holds of both. `says` puts the value of a missing field in a user's
 -- words; all else of `IsService` is what `reads` says.
-use Rattle.std.proofs.Common.{◌≡◌, ℕ, Bool, true, List, [], ◌∷◌, None, refl, sym, ap, codes, string_bytes, arith}
-use Rattle.std.specs.Prelude.{◌↔◌, option_map}
-use Rattle.miniserde.specs.Tree.{Tree, members, nonneg, str, truth, list, no_trees}
+use Rattle.std.proofs.Common.{◌≡◌, ℕ, Bool, true, List, [], ◌∷◌, refl, sym, ap, codes, string_bytes, arith}
+use Rattle.std.specs.Prelude.{◌↔◌}
+use Rattle.miniserde.specs.Tree.{Tree, members, nonneg, str, truth, no_trees}
 use Rattle.miniserde.specs.Words.{string_of}
 use Rattle.miniserde.specs.Integers.{unsigned_of, ReadsUnsigned}
 use Rattle.miniserde.specs.Lists.{EachReads}

@@ -2,7 +2,7 @@
 -- field: `same_field` and `other_field` carry over the three old fields, and `says_missing` gives the two new fields
 -- their defaults.
 use Rattle.std.proofs.Common.{◌≡◌, ℕ, [], ◌∷◌, Some, None, refl, sym, ap, codes, string_bytes, pos, arith}
-use Rattle.std.specs.Prelude.{◌↔◌, option_map}
+use Rattle.std.specs.Prelude.{◌↔◌}
 use Rattle.miniserde.specs.Tree.{Tree, members, nonneg}
 use Rattle.miniserde.specs.Words.{string_of}
 use Rattle.miniserde.specs.Integers.{ReadsUnsigned}

@@ -1,11 +1,9 @@
 -- A tree means settings exactly if `IsSettings` holds of both. `says` puts hosts, certificates and a missing `tls` in a
 -- user's words; all else of `IsSettings` is what `reads` says.
-use Rattle.std.proofs.Common.{◌≡◌, None, codes}
-use Rattle.std.specs.Prelude.{option_map}
+use Rattle.std.proofs.Common.{codes}
 use Rattle.miniserde.specs.Tree.{members}
-use Rattle.miniserde.specs.Lists.{ListReads, list_of}
-use Rattle.miniserde.specs.Options.{OptionReads, option_of}
-use Rattle.settings.specs.Meaning.{IsHost, IsTls}
+use Rattle.miniserde.specs.Lists.{list_of}
+use Rattle.miniserde.specs.Options.{option_of}
 use Rattle.settings.specs.contracts.parts.HostFromJson.TheImpl as host
 use Rattle.settings.specs.contracts.parts.TlsFromJson.TheImpl as tls
 use Rattle.miniserde.specs.Said.{says, items, optional, none_counts}
