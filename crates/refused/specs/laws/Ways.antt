@@ -1,6 +1,6 @@
 -- The document is a place (`document_way`), and so is what stands in a field of a struct at a place (`field_way`), and in
 -- an optional one (`option_way`). Trees that agree do so the other way round (`agree-turn`).
-use Rattle.std.proofs.Common.{List, [], ◌∷◌, ◌++◌, Some, None, inl, inr, refl, sym, subst, append_assoc}
+use Rattle.std.proofs.Common.{List, [], ◌∷◌, ◌++◌, None, inl, inr, refl, sym, subst, append_assoc}
 use Rattle.miniserde.specs.Tree.{Tree}
 use Rattle.miniserde.specs.Objects.{Name}
 use Rattle.refused.specs.Agree.{AgreeAt, Pairwise}
