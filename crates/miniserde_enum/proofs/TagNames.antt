@@ -12,7 +12,7 @@ use Rattle.miniserde_read.specs.types.Objects.{Name, object_of}
 use Rattle.miniserde_read.specs.types.Words.{string_of}
 use Rattle.miniserde_read.specs.Rest.{ValueAt, GivesAt, GivesNoneAt}
 use Rattle.miniserde_read.proofs.Same.{value_same}
-use Rattle.miniserde_record.specs.Fields.{content_pair, other_members, last_content, fields_content}
+use Rattle.miniserde_record.specs.Fields.{content_pair, other_members, last_content, FieldRule, fields_content}
 use Rattle.miniserde_record.specs.Structs.{is_new}
 use Rattle.miniserde_enum.specs.Inside.{inside_of}
 use Rattle.miniserde_enum.specs.Cases.{with_data}
@@ -52,8 +52,12 @@ last-mapped of g n d (member k t ms) =
 abbrev Tag : Type 0
 Tag = Option Name × Unit {0}
 
+-- the content of the tag: the last name of a variant that a member gives
+abbrev tag_rule : List Name → FieldRule (Option Name)
+tag_rule names = record { once = false; absent = None; of = tag_name_of names }
+
 abbrev tag_field : List Name → Name → Tree → Option Tag
-tag_field names tag = object_of (fields_content {S = Unit {0}} false (tag_name_of names) None (λ ns s ms. Some tt) (tag ∷ []) (None, tt))
+tag_field names tag = object_of (fields_content {S = Unit {0}} (tag_rule names) (λ ns s ms. Some tt) (tag ∷ []) (None, tt))
 
 module _ {V : Type 0} (m : CasesMeaning V) (names : List Name) (tag : Name) where
   -- the content that the data gives by the name, if there is one

@@ -72,31 +72,31 @@ data_and m n = record {
 abbrev pub enum_content : {V : Type 0} (n : CasesMeaning V) → List Name → Tree → Option n.Content
 enum_content n names = content_by_tagging external (n.content_by_name names)
 
--- the tree means the value v of an externally tagged enum: by the meaning n of its variants and
--- their names, it means the value of the variant, which `values` returns
-abbrev pub enum_reads : {V W : Type 0} (n : CasesMeaning V) → List Name → (W → V) → Tree → W → Type 0
-enum_reads n names values t v = n.reads external names t (values v)
+-- the tree means an externally tagged enum: by the meaning n of its variants and their names, it means v, the value of
+-- the variant
+abbrev pub enum_reads : {V : Type 0} (n : CasesMeaning V) → List Name → Tree → V → Type 0
+enum_reads n names t v = n.reads external names t v
 
 -- the meaning of an externally tagged enum, by the meaning n of its variants and their names; `values` returns the
 -- value of the variant
 abbrev pub enum_meaning : {V W : Type 0} (n : CasesMeaning V) (names : List Name) → are_distinct names ≡ true → (W → V) → Meaning W
 enum_meaning n names distinct values =
-    meaning_with (λ v. n.content (values v)) (enum_content n names) (enum_reads n names values)
+    meaning_with (λ v. n.content (values v)) (enum_content n names) (λ t v. enum_reads n names t (values v))
     (λ t v. n.agrees external names distinct t (values v))
 
 -- the content that a tree gives for an enum that is tagged by `tag`, by the meaning n of its variants and their names
 abbrev pub tagged_content : {V : Type 0} (n : CasesMeaning V) → Name → List Name → Tree → Option n.Content
 tagged_content n tag names = content_by_tagging (internal tag) (n.content_by_name names)
 
--- the tree means the value v of an enum that is tagged by `tag`: by the meaning n of its variants
--- and their names, it means the value of the variant, which `values` returns
-abbrev pub tagged_reads : {V W : Type 0} (n : CasesMeaning V) → Name → List Name → (W → V) → Tree → W → Type 0
-tagged_reads n tag names values t v = n.reads (internal tag) names t (values v)
+-- the tree means an enum that is tagged by `tag`: by the meaning n of its variants and their names, it means v, the
+-- value of the variant
+abbrev pub tagged_reads : {V : Type 0} (n : CasesMeaning V) → Name → List Name → Tree → V → Type 0
+tagged_reads n tag names t v = n.reads (internal tag) names t v
 
 -- the meaning of an enum that is tagged by `tag`, by the meaning n of its variants and their names; `values` returns
 -- the value of the variant
 abbrev pub tagged_meaning : {V W : Type 0} (n : CasesMeaning V) → Name → (names : List Name)
     → are_distinct names ≡ true → (W → V) → Meaning W
 tagged_meaning n tag names distinct values =
-    meaning_with (λ v. n.content (values v)) (tagged_content n tag names) (tagged_reads n tag names values)
+    meaning_with (λ v. n.content (values v)) (tagged_content n tag names) (λ t v. tagged_reads n tag names t (values v))
     (λ t v. n.agrees (internal tag) names distinct t (values v))

@@ -22,8 +22,8 @@ beside_tag tag n = record {
   count = n.count;
   next_state = λ names s k t. cond (bytes_eq k tag) (Some s) (n.next_state names s k t);
   refuses = λ names s k. cond (bytes_eq k tag) false (n.refuses names s k);
-  refuses_agrees = λ names s k h t. beside-refused (bytes_eq k tag) (n.refuses names s k) (Some s)
-      (n.next_state names s k t) (λ e. n.refuses_agrees names s k e t) h;
+  refuses_agrees = λ names s k h t. beside-refused {refuses = n.refuses names s k} (bytes_eq k tag) (Some s)
+      (λ e. n.refuses_agrees names s k e t) h;
   end = n.end;
   from_members = λ names s ms. n.from_members names s (other_members tag ms);
   members_agree = λ names s ms. beside-apart tag (n.next_state names) n.end s ms ∙ n.members_agree names s (other_members tag ms);

@@ -14,10 +14,10 @@ use Rattle.miniserde_read.specs.Meanings.{option_meaning}
 use Rattle.miniserde_read.specs.types.Objects.{Name}
 use Rattle.miniserde_laws.specs.RoundTrip.{RoundTrips}
 use Rattle.miniserde_record.specs.Fields.{other_members, AllOfName, LastMemberReads, count_named, OnceAnd}
-use Rattle.miniserde_record.specs.Fields.{missing_content, MissingReads}
+use Rattle.miniserde_record.specs.Fields.{missing_content, MissingReads, value_rule}
 use Rattle.miniserde_record.specs.FieldsMeaning.{FieldsMeaning, field_and}
 use Rattle.miniserde_record.specs.Marks.{all_among}
-use Rattle.miniserde_record.specs.laws.Meanings.{FieldsInTurn, field-in_turn, missing-agrees}
+use Rattle.miniserde_record.specs.laws.Meanings.{values_of, FieldsInTurn, field-in_turn, missing-agrees}
 use Rattle.miniserde_record.specs.Structs.{is_new, are_distinct, are_names}
 use Rattle.miniserde_record.specs.Structs.{with_names, FieldsRoundTrip}
 use Rattle.miniserde_record.proofs.Names.{same, both, apart, count_new, with_names_none}
@@ -93,7 +93,7 @@ module _ {A W : Type 0} (once : Bool) (m : Meaning A) (missing : A → Type 0) (
   -- a written field is there, so what a missing one has is not asked for
   pub round_trips-field : (names : List Name) (v : A × W) → are_names (count + 1) names ≡ true → valid_a v.0 × valid_r v.1
       → FieldsRoundTrip (λ (v : A × W). valid_a v.0 × valid_r v.1) (λ v. Some (tree v.0) ∷ trees v.1)
-      (FieldsInTurn once m.reads m.from_tree missing reads_r) names (Some (tree v.0) ∷ trees v.1)
+      (FieldsInTurn (values_of once m missing) reads_r) names (Some (tree v.0) ∷ trees v.1)
   round_trips-field [] v f r = absurd (no_names count f)
   round_trips-field (n ∷ ns) v f r =
       let f = more_names count n ns f in
@@ -135,7 +135,7 @@ module _ {A W : Type 0} (once : Bool) (m : Meaning A) (valid_a : A → Type 0) (
   missing v = MissingReads (option_meaning m) None (Some None) v
 
   abbrev reads : List Name → Members → Option A × W → Type 0
-  reads ns ms v = FieldsInTurn once (option_meaning m).reads (option_meaning m).from_tree missing reads_r ns ms v
+  reads ns ms v = FieldsInTurn (values_of once (option_meaning m) missing) reads_r ns ms v
 
   pub round_trips-omitted : (names : List Name) (v : Option A × W) → are_names (count + 1) names ≡ true
       → OptionValid valid_a v.0 × valid_r v.1
@@ -182,7 +182,7 @@ module _ {A W : Type 0} (once : Bool) (given : Option Tree) (m : Meaning A) (abs
     (valid : A × W → Type 0) (trees : A × W → List (Option Tree)) (names : List Name) (ts : List (Option Tree)) where
   -- the members mean the values, the field by what it is and the later ones by what it leaves
   abbrev InTurn : List Name → Members → A × W → Type 0
-  InTurn = FieldsInTurn once m.reads m.from_tree (MissingReads m given absent) (n.reads [])
+  InTurn = FieldsInTurn (value_rule once given m absent) (n.reads [])
 
   -- what is read back in turn is read back by each field itself
   pub round_trips-alone : FieldsRoundTrip valid trees InTurn names ts

@@ -9,7 +9,7 @@ use Rattle.miniserde_read.specs.types.Objects.{Name}
 use Rattle.miniserde_places.specs.Objects.{object_rules}
 use Rattle.miniserde_places.specs.Tied.{type_meaning}
 use Rattle.miniserde_places.specs.laws.Objects.{object-meant}
-use Rattle.miniserde_record.specs.Fields.{field_member}
+use Rattle.miniserde_record.specs.Fields.{MemberRule, field_member}
 use Rattle.miniserde_record.specs.FieldsMeaning.{FieldsMeaning, no_fields, field_and, struct_meaning}
 use Rattle.miniserde_record.specs.laws.Fields.{none-refused, field-refused, field-meant}
 
@@ -51,18 +51,32 @@ abbrev pub field_view : {P A S : Type 0} → (P → PlaceView A) → Option A �
 field_view view v s later None = view_through (λ r. Some (v, r)) later
 field_view view v s later (Some p) = view_through (λ a. Some (Some a, s)) (view p)
 
+-- what the events of a member do to a field, whose place has the meaning m, and to the later ones, with the meaning n
+abbrev events_rule : {P T R V : Type 0} → Bool → (m : PlaceMeaning P T) (n : FieldPlacesMeaning R V)
+    → MemberRule m.Content n.by_trees.State (List Step)
+events_rule once m n = record { once = once; of = m.from_events; later = n.by_events }
+
+-- a field of the type T, with places P, and the fields R after it, among fields F
+pub record FieldParts (F T P R : Type 0) : Type 0 where
+  -- the field's value so far, if it has one
+  pub value : F → Option T
+  -- the field's place, if it is the current field
+  pub child : F → Option P
+  -- the later fields
+  pub rest : F → R
+
 -- The meaning of a field and of the fields after it. `once` says whether a duplicate of its name fails, m is the
--- meaning of its place, and `absent` its value if it is missing, if it has one then. `value` returns its value so far,
--- `child` its place if it is the current field, and `rest` the later fields, which have the meaning n.
-abbrev pub field_place_and : {P T F R V : Type 0} → Bool → PlaceMeaning P T → Option T → (F → Option T)
-    → (F → Option P) → (F → R) → FieldPlacesMeaning R V → FieldPlacesMeaning F (T × V)
-field_place_and once m absent value child rest n = record {
+-- meaning of its place, and `absent` its value if it is missing, if it has one then. The later fields have the meaning n.
+abbrev pub field_place_and : {P T F R V : Type 0} → Bool → PlaceMeaning P T → Option T → FieldParts F T P R
+    → FieldPlacesMeaning R V → FieldPlacesMeaning F (T × V)
+field_place_and once m absent parts n = record {
   by_trees = field_and once None (type_meaning m) absent n.by_trees;
-  state = λ f. (option_map m.content (value f), n.state (rest f));
-  by_events = field_member once m.from_events n.by_events;
+  state = λ f. (option_map m.content (parts.value f), n.state (parts.rest f));
+  by_events = field_member (events_rule once m n);
   events_agree = field-meant once m.from_events m.from_tree n.by_events n.by_trees.next_state m.events_agree n.events_agree;
-  refuses_agrees = field-refused once m.from_events n.by_events n.by_trees.refuses n.refuses_agrees;
-  child = λ f. field_view m.view (option_map m.content (value f)) (n.state (rest f)) (n.child (rest f)) (child f);
+  refuses_agrees = field-refused (events_rule once m n) n.by_trees.refuses n.refuses_agrees;
+  child = λ f. field_view m.view (option_map m.content (parts.value f)) (n.state (parts.rest f)) (n.child (parts.rest f))
+      (parts.child f);
 }
 
 -- the meaning of a wrapper around fields: `inner` returns the fields, and n is their meaning

@@ -72,20 +72,28 @@ part_view f g a b Neither = no_child
 part_view f g a b (First p) = view_through (λ x. Some (Some x, b)) (f p)
 part_view f g a b (Second q) = view_through (λ y. Some (a, Some y)) (g q)
 
--- The meaning of a pair's collector, by the meanings m and n of its parts' places: `first` and
--- `second` return the parts so far, `child` the current part's place, and `one` and `two` the parts
--- of a complete pair. A third part fails, and so does a member.
-abbrev pub pair_collector : {P Q V U C W : Type 0} → PlaceMeaning P V → PlaceMeaning Q U → (C → Option V)
-    → (C → Option U) → (C → Part P Q) → (W → V) → (W → U) → CollectorMeaning C W
-pair_collector m n first second child one two = record {
+-- what a pair's collector C has: the parts of the types V and U, with places P and Q
+pub record PairParts (C V U P Q : Type 0) : Type 0 where
+  -- the parts so far
+  pub first : C → Option V
+  pub second : C → Option U
+  -- the current part's place
+  pub child : C → Part P Q
+
+-- The meaning of a pair's collector, by the meanings m and n of its parts' places: `one` and `two` return the parts of a
+-- complete pair. A third part fails, and so does a member.
+abbrev pub pair_collector : {P Q V U C W : Type 0} → PlaceMeaning P V → PlaceMeaning Q U → PairParts C V U P Q
+    → (W → V) → (W → U) → CollectorMeaning C W
+pair_collector m n parts one two = record {
   by_trees = pair_meaning (type_meaning m) (type_meaning n) one two;
   State = Option m.Content × Option n.Content;
-  state = λ c. (option_map m.content (first c), option_map n.content (second c));
+  state = λ c. (option_map m.content (parts.first c), option_map n.content (parts.second c));
   empty = (None, None);
   is_object = false;
   rules = pair_rules m.from_events n.from_events;
   events_agree = pair-meant m.from_events n.from_events m.from_tree n.from_tree m.events_agree n.events_agree;
-  child = λ c. part_view m.view n.view (option_map m.content (first c)) (option_map n.content (second c)) (child c);
+  child = λ c. part_view m.view n.view (option_map m.content (parts.first c)) (option_map n.content (parts.second c))
+      (parts.child c);
   refuses = λ s e. is_member e || (is_some s.0 && is_some s.1);
 }
 

@@ -33,7 +33,7 @@ where
     type Out = (P::Out, Q::Out);
 
     ghost collector_meaning = { pair_collector P.meaning Q.meaning
-        (λ c. c.first) (λ c. c.second) (λ c. c.child) (λ v. v.0) (λ v. v.1) };
+        (record { first = λ c. c.first; second = λ c. c.second; child = λ c. c.child }) (λ v. v.0) (λ v. v.1) };
 
     // `join` takes a part out of its place and allocates nothing besides, so it fails to allocate
     // only if `take` of that place does.

@@ -5,8 +5,8 @@ use Rattle.miniserde_model.specs.Tree.{Tree, Members}
 use Rattle.miniserde_read.specs.Meaning.{Meaning, meaning_with}
 use Rattle.miniserde_read.specs.types.Objects.{Name, object_of, after_members}
 use Rattle.miniserde_record.specs.Aliases.{field_name_of, with_field_names}
-use Rattle.miniserde_record.specs.Fields.{field_member, field_refuses, field_end, fields_content, missing_content}
-use Rattle.miniserde_record.specs.Fields.{MissingReads, FieldsRead, StructReads}
+use Rattle.miniserde_record.specs.Fields.{MemberRule, field_member, field_refuses, field_end, field_rule, fields_content}
+use Rattle.miniserde_record.specs.Fields.{missing_content, MissingReads, value_rule, FieldsRead, StructReads}
 use Rattle.miniserde_record.specs.Marks.{has_no_members, all_among}
 use Rattle.miniserde_record.specs.laws.Left.{left}
 use Rattle.miniserde_record.specs.laws.Aliases.{alias-apart}
@@ -82,6 +82,10 @@ closed_end = record {
   reads_agrees = λ before ns ms v. closed-agrees before ms v;
 }
 
+-- what a member's tree does to a field of a type with the meaning m, and to the later ones, with the meaning n
+abbrev trees_rule : {T V : Type 0} → Bool → (m : Meaning T) (n : FieldsMeaning V) → MemberRule m.Content n.State Tree
+trees_rule once m n = record { once = once; of = m.from_tree; later = n.next_state }
+
 -- The meaning of a field and of the later fields, by the meaning m of the field's type and n of the
 -- later fields. If `once` is true, at most one member has the field's name. If the field is
 -- missing, it counts as if a member had the tree `given` (`given-present`, `given-missing`); if
@@ -93,13 +97,13 @@ field_and once given m absent n = record {
   State = Option m.Content × n.State;
   empty = (None, n.empty);
   count = n.count + 1;
-  next_state = field_member once m.from_tree n.next_state;
+  next_state = field_member (trees_rule once m n);
   refuses = field_refuses once n.refuses;
-  refuses_agrees = field-refused once m.from_tree n.next_state n.refuses n.refuses_agrees;
+  refuses_agrees = field-refused (trees_rule once m n) n.refuses n.refuses_agrees;
   end = field_end (missing_content m given absent) n.end;
-  from_members = fields_content once m.from_tree (missing_content m given absent) n.from_members;
-  members_agree = field-apart once m.from_tree (missing_content m given absent) n.next_state n.end n.from_members n.members_agree;
-  reads = FieldsRead once m.reads m.from_tree (MissingReads m given absent) n.reads;
+  from_members = fields_content (field_rule once given m absent) n.from_members;
+  members_agree = field-apart (field_rule once given m absent) n.next_state n.end n.from_members n.members_agree;
+  reads = FieldsRead (record { first = value_rule once given m absent; later = n.reads });
   reads_agrees = field-agrees once m (missing_content m given absent) (MissingReads m given absent)
       (missing-agrees m given absent) n.reads n.from_members n.content n.empty n.reads_agrees;
 }

@@ -16,7 +16,8 @@ use Rattle.miniserde_model.proofs.OneNormal.{norm_only}
 use Rattle.miniserde_read.specs.types.Objects.{Name}
 use Rattle.miniserde_stored.specs.Stable.{IsStable}
 use Rattle.miniserde_stored.proofs.Types.{bound, mapped}
-use Rattle.miniserde_record.specs.Fields.{content_pair, other_members, last_content, fields_content, AllOfName, count_named}
+use Rattle.miniserde_record.specs.Fields.{content_pair, other_members, last_content, AllOfName, count_named}
+use Rattle.miniserde_record.specs.Fields.{FieldRule, fields_content}
 use Rattle.miniserde_stored.specs.StableFields.{AreStable}
 use Rattle.miniserde_record.specs.laws.Meanings.{last_or, last-all, all-last, last-some, last-once}
 use Rattle.miniserde_record.specs.laws.Left.{last-apart}
@@ -149,16 +150,16 @@ later_stable : {C D : Type 0} (o : Option C) (p q : Option D) (d : C × D) → (
     → option_and_then (content_pair p) o ≡ Some d → option_and_then (content_pair q) o ≡ Some d
 later_stable o p q d h e = bound o o (content_pair p) (content_pair q) d (λ c f. f) (λ c. mapped (λ x. (c, x)) p q d h) e
 
-module _ {C S D : Type 0} (once : Bool) (of : Tree → Option C) (stable : IsStable of) (absent : Option C)
-    (rest : List Name → S → Members → Option D) (later : AreStable rest) where
-  pub stable-field : AreStable (fields_content once of absent rest)
-  stable-field [] s ms d e = later_stable (option_or s.0 absent) (rest [] s.1 ms) (rest [] s.1 (norm_members ms)) d (later [] s.1 ms) e
+module _ {C S D : Type 0} (rule : FieldRule C) (stable : IsStable rule.of) (rest : List Name → S → Members → Option D)
+    (later : AreStable rest) where
+  pub stable-field : AreStable (fields_content rule rest)
+  stable-field [] s ms d e = later_stable (option_or s.0 rule.absent) (rest [] s.1 ms) (rest [] s.1 (norm_members ms)) d (later [] s.1 ms) e
   stable-field (n ∷ ns) s ms d e =
       let p = rest ns s.1 (other_members n ms) in
       let q = rest ns s.1 (other_members n (norm_members ms)) in
       let more : (x : D) → p ≡ Some x → q ≡ Some x = λ x f. ap (rest ns s.1) (others_normal n ms) ∙ later ns s.1 (other_members n ms) x f in
-      bound (last_content once of n s.0 ms) (last_content once of n s.0 (norm_members ms))
-      (λ o. option_and_then (content_pair p) (option_or o absent))
-      (λ o. option_and_then (content_pair q) (option_or o absent)) d
-      (λ o. given_normal of stable n once s.0 o ms)
-      (λ o. later_stable (option_or o absent) p q d more) e
+      bound (last_content rule.once rule.of n s.0 ms) (last_content rule.once rule.of n s.0 (norm_members ms))
+      (λ o. option_and_then (content_pair p) (option_or o rule.absent))
+      (λ o. option_and_then (content_pair q) (option_or o rule.absent)) d
+      (λ o. given_normal rule.of stable n rule.once s.0 o ms)
+      (λ o. later_stable (option_or o rule.absent) p q d more) e

@@ -67,7 +67,8 @@ module _ {C : Type 0} (tag : Name) (f : Name → Option Tree → Option C)
       let n = a.0 in
       let later : AreStable (beside_it n) = λ ns s ms c e. stable n (Some (members ms)) c e in
       let was = some-field (λ k. f n (Some (members (other_members tag ms)))) o n c a.1 a.2 in
-      let is = stable-field false string_of string-stable None (beside_it n) later (tag ∷ []) (None, tt) ms (n, c) was in
+      let is = stable-field (record { once = false; absent = None; of = string_of }) string-stable (beside_it n) later (tag ∷ [])
+      (None, tt) ms (n, c) was in
       let b = field-some (λ k. f n (Some (members (other_members tag (norm_members ms))))) q n c is in
       rw (b.0, b.1) refl
   tagged-stable t c e = absurd (cc)

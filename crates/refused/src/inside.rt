@@ -1,6 +1,6 @@
 //! Fields that are structs, whose own fields are looked for too.
 ghost use Rattle.std.specs.Prelude.{◌≡◌, ◌++◌, ◌⊎◌};
-ghost use Rattle.miniserde.specs.Fields.{missing_content};
+ghost use Rattle.miniserde.specs.Fields.{field_rule};
 ghost use Rattle.miniserde.specs.FieldsMeaning.{field_and};
 ghost use Rattle.refused.specs.Wrong.{IsWrongWithin, alone, field_gives, first_alone, later_names, optional_gives};
 
@@ -26,13 +26,13 @@ impl<T: FieldByField, M: Mark<T>, R: Probes> Probes for ProbeInto<T, M, R> {
     ghost meaning = { field_and M.once M.given T.means T.absent R.meaning };
 
     ghost wrong = { λ gives here names path t.
-        IsWrongWithin gives (field_gives gives names) T.wrong T.right here
-        (alone M.once (missing_content T.means M.given T.absent) T.means.from_tree) names path t
-        ⊎ (gives _ (alone M.once (missing_content T.means M.given T.absent) T.means.from_tree (first_alone names)) t
+        IsWrongWithin (record { gives = gives; here = here; names = names; rule = field_rule M.once M.given T.means T.absent })
+        (record { gives = field_gives gives names; wrong = T.wrong; right = T.right }) path t
+        ⊎ (gives _ (alone (field_rule M.once M.given T.means T.absent) (first_alone names)) t
         × R.wrong gives here (later_names names) path t) };
 
     ghost right = { λ gives names t.
-        gives _ (alone M.once (missing_content T.means M.given T.absent) T.means.from_tree (first_alone names)) t
+        gives _ (alone (field_rule M.once M.given T.means T.absent) (first_alone names)) t
         × R.right gives (later_names names) t };
 
     fn probe<W: Way, N: Names>(alloc: Global, text: &str) -> Result<Option<FieldPath>> {
@@ -69,16 +69,18 @@ impl<T: FieldByField, M: Mark<Option<T>>, R: Probes> Probes for ProbeIntoOption<
     ghost meaning = { field_and M.once M.given (option_meaning T.means) (Some None) R.meaning };
 
     ghost wrong = { λ gives here names path t.
-        IsWrongWithin gives (optional_gives gives names) T.wrong T.right here
-        (alone M.once (missing_content (option_meaning T.means) M.given (Some None)) (option_meaning T.means).from_tree)
-        names path t
-        ⊎ (gives _ (alone M.once (missing_content (option_meaning T.means) M.given (Some None))
-        (option_meaning T.means).from_tree (first_alone names)) t
+        IsWrongWithin (record {
+          gives = gives;
+          here = here;
+          names = names;
+          rule = field_rule M.once M.given (option_meaning T.means) (Some None);
+        })
+        (record { gives = optional_gives gives names; wrong = T.wrong; right = T.right }) path t
+        ⊎ (gives _ (alone (field_rule M.once M.given (option_meaning T.means) (Some None)) (first_alone names)) t
         × R.wrong gives here (later_names names) path t) };
 
     ghost right = { λ gives names t.
-        gives _ (alone M.once (missing_content (option_meaning T.means) M.given (Some None))
-        (option_meaning T.means).from_tree (first_alone names)) t
+        gives _ (alone (field_rule M.once M.given (option_meaning T.means) (Some None)) (first_alone names)) t
         × R.right gives (later_names names) t };
 
     fn probe<W: Way, N: Names>(alloc: Global, text: &str) -> Result<Option<FieldPath>> {

@@ -3,7 +3,7 @@ ghost use Rattle.std.specs.Prelude.{◌≡◌, ◌++◌, ◌⊎◌, true, Ok, No
 ghost use Rattle.miniserde.specs.Tree.{Tree};
 ghost use Rattle.miniserde.specs.Value.{IsJson};
 ghost use Rattle.miniserde.specs.Objects.{Name};
-ghost use Rattle.miniserde.specs.Fields.{missing_content};
+ghost use Rattle.miniserde.specs.Fields.{field_rule};
 ghost use Rattle.miniserde.specs.FieldsMeaning.{FieldsMeaning, field_and, no_fields};
 ghost use Rattle.miniserde.specs.declared.Error.{Error};
 ghost use Rattle.refused.specs.Ways.{IsWrongFrom};
@@ -82,12 +82,12 @@ impl<T: FromJson, M: Mark<T>, R: Probes> Probes for Probe<T, M, R> {
     ghost meaning = { field_and M.once M.given T.means T.absent R.meaning };
 
     ghost wrong = { λ gives here names path t.
-        FieldIsWrong gives here (alone M.once (missing_content T.means M.given T.absent) T.means.from_tree) names path t
-        ⊎ (gives _ (alone M.once (missing_content T.means M.given T.absent) T.means.from_tree (first_alone names)) t
+        FieldIsWrong (record { gives = gives; here = here; names = names; rule = field_rule M.once M.given T.means T.absent }) path t
+        ⊎ (gives _ (alone (field_rule M.once M.given T.means T.absent) (first_alone names)) t
         × R.wrong gives here (later_names names) path t) };
 
     ghost right = { λ gives names t.
-        gives _ (alone M.once (missing_content T.means M.given T.absent) T.means.from_tree (first_alone names)) t
+        gives _ (alone (field_rule M.once M.given T.means T.absent) (first_alone names)) t
         × R.right gives (later_names names) t };
 
     fn probe<W: Way, N: Names>(alloc: Global, text: &str) -> Result<Option<FieldPath>> {

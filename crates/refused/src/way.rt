@@ -3,7 +3,7 @@ ghost use Rattle.std.specs.Prelude.{◌≡◌, ◌∷◌, ◌++◌, true, false,
 ghost use Rattle.miniserde.specs.Tree.{Tree};
 ghost use Rattle.miniserde.specs.Value.{IsJson};
 ghost use Rattle.miniserde.specs.Objects.{Name};
-ghost use Rattle.miniserde.specs.Fields.{missing_content};
+ghost use Rattle.miniserde.specs.Fields.{field_rule};
 ghost use Rattle.miniserde.specs.declared.Error.{Error};
 ghost use Rattle.refused.specs.Ways.{IsWay};
 ghost use Rattle.refused.specs.Wrong.{Gives, alone, document_gives, field_gives, first_alone, name_or_empty, optional_gives};
@@ -38,9 +38,9 @@ pub trait Way {
     /// the names `N`. Returns `Memory` if an allocation fails. No clause says what it returns for a text that is no JSON.
     fn has<N: Names, T: FromJson, M: Mark<T>>(alloc: Global, text: &str) -> Result<bool>
         ensures yes { result ≡ Ok true → (t : Tree) → IsJson text.now t
-            → gives _ (alone M.once (missing_content T.means M.given T.absent) T.means.from_tree (first_alone N.names)) t }
+            → gives _ (alone (field_rule M.once M.given T.means T.absent) (first_alone N.names)) t }
         ensures no { result ≡ Ok false → (t : Tree) → IsJson text.now t
-            → gives _ (alone M.once (missing_content T.means M.given T.absent) T.means.from_tree (first_alone N.names)) t → ⊥ }
+            → gives _ (alone (field_rule M.once M.given T.means T.absent) (first_alone N.names)) t → ⊥ }
         ensures memory { IfErr result (λ e. e ≡ Error.Memory) };
 }
 

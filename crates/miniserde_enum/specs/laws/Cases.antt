@@ -48,16 +48,20 @@ if_named given n k o = cond (bytes_eq k n) (given o) None
 
 -- ---- by a name and its data
 
+-- at each name and data, f returns a exactly if g returns b
+pub record AgreeAtNames {A B : Type 0} (f : Name → Option Tree → Option A) (g : Name → Option Tree → Option B)
+    (a : A) (b : B) : Type 0 where
+  pub at_name : (k : Name) (o : Option Tree) → (f k o ≡ Some a) ↔ (g k o ≡ Some b)
+
 -- two functions that agree at each name and data agree at each tree
-pub tagging-iff : {A B : Type 0} (tagging : Tagging) (f : Name → Option Tree → Option A)
-    (g : Name → Option Tree → Option B) (a : A) (b : B)
-    → ((k : Name) (o : Option Tree) → (f k o ≡ Some a) ↔ (g k o ≡ Some b)) → (t : Tree)
+pub tagging-iff : {A B : Type 0} {f : Name → Option Tree → Option A} {g : Name → Option Tree → Option B} {a : A} {b : B}
+    (tagging : Tagging) → AgreeAtNames f g a b → (t : Tree)
     → (content_by_tagging tagging f t ≡ Some a) ↔ (content_by_tagging tagging g t ≡ Some b)
-tagging-iff {A} {B} tagging f g a b h t =
+tagging-iff {A} {B} {f = f} {g = g} {a = a} {b = b} tagging agree t =
     elim (variant_of_tree tagging t)
     as (λ o. (◌≡◌ {A = Option A} (option_and_then (λ s. f s.0 s.1) o) (Some a))
     ↔ (◌≡◌ {A = Option B} (option_and_then (λ s. g s.0 s.1) o) (Some b)))
-    [ None ↦ (λ e. absurd (cc), λ e. absurd (cc)) | Some s ↦ h s.0 s.1 ]
+    [ None ↦ (λ e. absurd (cc), λ e. absurd (cc)) | Some s ↦ agree.at_name s.0 s.1 ]
 
 -- a tree gives no content if no name and data do
 pub tagging-none : {A : Type 0} (tagging : Tagging) (a : A) (t : Tree) → content_by_tagging tagging (λ k o. None) t ≡ Some a → ⊥
@@ -185,12 +189,14 @@ module _ {T W C D : Type 0} (given : Option Tree → Option C) (one : Tagging �
   case-agrees tagging [] d t v = (λ h. absurd h, λ e. absurd (tagging-none tagging (case_content content content_w v) t e))
   case-agrees tagging (n ∷ ns) d t (First x) =
       let p = one_agrees tagging n t x in
-      let q = tagging-iff tagging (if_named given n) (variant_content given later (n ∷ ns)) (content x)
-      (First (content x)) (first-at n ns x) t in
+      let same : AgreeAtNames (if_named given n) (variant_content given later (n ∷ ns)) (content x) (First (content x)) =
+      record { at_name = first-at n ns x } in
+      let q = tagging-iff tagging same t in
       (λ h. q.0 (p.0 h), λ e. p.1 (q.1 e))
   case-agrees tagging (n ∷ ns) d t (Later w) =
       let f = distinct-first n ns d in
       let p = agrees tagging ns f.1 t w in
-      let q = tagging-iff tagging (later ns) (variant_content given later (n ∷ ns)) (content_w w)
-      (Later (content_w w)) (later-at n ns w f.0) t in
+      let same : AgreeAtNames (later ns) (variant_content given later (n ∷ ns)) (content_w w) (Later (content_w w)) =
+      record { at_name = later-at n ns w f.0 } in
+      let q = tagging-iff tagging same t in
       (λ h. q.0 (p.0 h), λ e. p.1 (q.1 e))

@@ -7,10 +7,10 @@ use Rattle.miniserde_record.specs.Fields.{other_members}
 use Rattle.miniserde_record.specs.laws.Left.{left, left-append}
 
 -- if `taken` is `None` for each refused member, a member that is refused and not skipped gives `None`
-pub beside-refused : {A : Type 0} (b refuses : Bool) (skipped taken : Option A) → (refuses ≡ true → taken ≡ None)
+pub beside-refused : {A : Type 0} {refuses : Bool} {taken : Option A} (b : Bool) (skipped : Option A) → (refuses ≡ true → taken ≡ None)
     → cond b false refuses ≡ true → cond b skipped taken ≡ None
-beside-refused true refuses skipped taken f h = absurd (cc)
-beside-refused false refuses skipped taken f h = f h
+beside-refused true skipped f h = absurd (cc)
+beside-refused false skipped f h = f h
 
 module _ {S D : Type 0} (tag : Name) (next : S → Name → Tree → Option S) (end : S → Option D) where
   pub beside-apart : (s : S) (ms : Members)

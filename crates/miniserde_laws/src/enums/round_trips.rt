@@ -91,7 +91,7 @@ pub fn enum_round_trips<E: DataEnum, C: RoundTripCases<Values = E::Values>>()
     requires { length E.names ≡ C.meaning.count }
     ensures { (v : E) → C.valid (E.values v)
         → RoundTrips (λ v. C.valid (E.values v)) (enum_tree E.names C.tree E.values)
-        (enum_reads C.meaning E.names E.values) (enum_tree E.names C.tree E.values v) }
+        (λ t v. enum_reads C.meaning E.names t (E.values v)) (enum_tree E.names C.tree E.values v) }
 {
     C::round_trips()
 }
@@ -103,7 +103,7 @@ pub fn tagged_round_trips<E: DataEnum + HasTag, C: RoundTripCases<Values = E::Va
     requires fits { C.fits (internal E.tag) }
     ensures { (v : E) → C.valid (E.values v)
         → RoundTrips (λ v. C.valid (E.values v)) (tagged_tree E.tag E.names C.tree E.values)
-        (tagged_reads C.meaning E.tag E.names E.values) (tagged_tree E.tag E.names C.tree E.values v) }
+        (λ t v. tagged_reads C.meaning E.tag E.names t (E.values v)) (tagged_tree E.tag E.names C.tree E.values v) }
 {
     C::round_trips()
 }

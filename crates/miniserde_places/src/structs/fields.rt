@@ -128,7 +128,8 @@ where
 {
     type Values = Parts<P::Out, R::Values>;
 
-    ghost meaning = { field_place_and O.once P.meaning P.Out.absent (λ f. f.value) (λ f. f.child) (λ f. f.rest) R.meaning };
+    ghost meaning = { field_place_and O.once P.meaning P.Out.absent
+        (record { value = λ f. f.value; child = λ f. f.child; rest = λ f. f.rest }) R.meaning };
 
     // `join` takes the value out of its place and allocates nothing besides, so it fails to allocate
     // only if `take` of that place does.

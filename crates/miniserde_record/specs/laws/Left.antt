@@ -1,5 +1,5 @@
--- The members that are left without those of some names. Of any other name they say what all members say (`moved`,
--- `count-left`), and of those names nothing (`gone`). So a field may be looked at in what the fields before it leave,
+-- The members that are left without those of some names. Of any other name they say what all members say (`last-left`,
+-- `all-left`, `count-left`), and of those names nothing (`gone`). So a field may be looked at in what the fields before it leave,
 -- or in all members (`one_field`).
 use Rattle.std.proofs.Common.{◌≡◌, suc, Bool, true, false, ◌||◌, cond, List, [], ◌∷◌, ◌++◌, Option, Some, None}
 use Rattle.std.proofs.Common.{refl, sym, ap, subst, ◌∙◌, true≢false, arith}
@@ -8,7 +8,8 @@ use Rattle.std.proofs.lemmas.Slice.Eq.{bytes_eq-Decides}
 use Rattle.miniserde_model.specs.Tree.{Tree, Members, no_members, member}
 use Rattle.miniserde_model.specs.Normal.{or_else, last_of}
 use Rattle.miniserde_read.specs.types.Objects.{Name}
-use Rattle.miniserde_record.specs.Fields.{other_members, AllOfName, LastMemberReads, count_named, OnceAnd, FieldReads}
+use Rattle.miniserde_record.specs.Fields.{other_members, AllOfName, LastMemberReads, count_named, OnceAnd}
+use Rattle.miniserde_record.specs.Fields.{ValueRule, FieldReads}
 use Rattle.miniserde_record.specs.Marks.{is_among}
 
 module _ (n k : Name) (differ : bytes_eq n k ≡ false) where
@@ -74,23 +75,28 @@ left-front k t (n ∷ ns) d ms =
       | false ↦ λ d. left-front k t ns d (other_members n ms)
     ] d
 
--- if k is none of the names, `LastMemberReads` means the same for k by the members without those names and by all
--- members
-pub moved : {C : Type 0} (missing : Type 0) (Is : Tree → Type 0) (of : Tree → Option C) (k : Name) (ns : List Name)
-    → is_among ns k ≡ false → (ms : Members) → LastMemberReads missing Is of k (left ns ms)
-    ↔ LastMemberReads missing Is of k ms
-moved missing Is of k [] d ms = (λ h. h, λ h. h)
-moved missing Is of k (n ∷ ns) d ms =
+-- if k is none of the names, the last member of the name k has the same tree
+last-left : (k : Name) (ns : List Name) → is_among ns k ≡ false → (ms : Members) → last_of k (left ns ms) ≡ last_of k ms
+last-left k [] d ms = refl
+last-left k (n ∷ ns) d ms =
     elim (bytes_eq k n) as (λ b. bytes_eq k n ≡ b → (b || is_among ns k) ≡ false
-    → LastMemberReads missing Is of k (left ns (other_members n ms)) ↔ LastMemberReads missing Is of k ms) [
+    → last_of k (left ns (other_members n ms)) ≡ last_of k ms) [
+      | true ↦ λ e d. absurd (cc)
+      | false ↦ λ e d. last-left k ns d (other_members n ms) ∙ last-apart n k (turned n k e) ms
+    ] refl d
+
+-- if k is none of the names, `of` returns a content for each member of the name k that is left exactly if for each one
+all-left : {C : Type 0} (of : Tree → Option C) (k : Name) (ns : List Name) → is_among ns k ≡ false → (ms : Members)
+    → AllOfName of k (left ns ms) ↔ AllOfName of k ms
+all-left of k [] d ms = (λ h. h, λ h. h)
+all-left of k (n ∷ ns) d ms =
+    elim (bytes_eq k n) as (λ b. bytes_eq k n ≡ b → (b || is_among ns k) ≡ false
+    → AllOfName of k (left ns (other_members n ms)) ↔ AllOfName of k ms) [
       | true ↦ λ e d. absurd (cc)
       | false ↦ λ e d.
-          let r = moved missing Is of k ns d (other_members n ms) in
+          let r = all-left of k ns d (other_members n ms) in
           let a = all-apart n k (turned n k e) of ms in
-          let l = last-apart n k (turned n k e) ms in (
-            λ h. let s = r.0 h in (a.0 s.0, subst (λ o. MatchOption o missing Is) l s.1),
-            λ h. r.1 (a.1 h.0, subst (λ o. MatchOption o missing Is) (sym l) h.1),
-          )
+          (λ h. a.0 (r.0 h), λ h. r.1 (a.1 h))
     ] refl d
 
 -- if k is none of the names, as many members have it
@@ -143,43 +149,55 @@ gone k (n ∷ ns) d ms =
       | false ↦ λ e d. gone k ns d (other_members n ms)
     ] refl d
 
--- where no member has the name, its field is missing
-lone : {C : Type 0} (missing : Type 0) (Is : Tree → Type 0) (of : Tree → Option C) (k : Name) (ms : Members)
-    → count_named k ms ≡ 0 → LastMemberReads missing Is of k ms ↔ missing
-lone missing Is of k no_members z = (λ h. h.1, λ h. (tt, h))
-lone missing Is of k (member j t ms) z =
+-- if no member has the name, none is the last of that name
+none_last : (k : Name) (ms : Members) → count_named k ms ≡ 0 → last_of k ms ≡ None
+none_last k no_members z = refl
+none_last k (member j t ms) z =
     elim (bytes_eq j k) as (λ a. cond a (suc (count_named k ms)) (count_named k ms) ≡ 0
-    → ((a ≡ true → IsSome (of t)) × AllOfName of k ms) × MatchOption (or_else (last_of k ms) (cond a (Some t) None)) missing Is
-    ↔ missing) [
+    → or_else (last_of k ms) (cond a (Some t) None) ≡ None) [
       | true ↦ λ z. absurd (cc)
-      | false ↦ λ z. let r = lone missing Is of k ms z in
-          let same : or_else (last_of k ms) None ≡ last_of k ms =
-          elim (last_of k ms) as (λ o. or_else o None ≡ o) [ None ↦ refl | Some u ↦ refl ] in (
-            λ h. r.0 (h.0.1, subst (λ o. MatchOption o missing Is) same h.1),
-            λ h. let s = r.1 h in ((λ f. absurd (cc), s.0), subst (λ o. MatchOption o missing Is) (sym same) s.1),
-          )
+      | false ↦ λ z. rw (none_last k ms z) refl
+    ] z
+
+-- if no member has the name, `of` returns a content for each one of that name
+none_all : {C : Type 0} (of : Tree → Option C) (k : Name) (ms : Members) → count_named k ms ≡ 0 → AllOfName of k ms
+none_all of k no_members z = tt
+none_all of k (member j t ms) z =
+    elim (bytes_eq j k) as (λ a. cond a (suc (count_named k ms)) (count_named k ms) ≡ 0
+    → (a ≡ true → IsSome (of t)) × AllOfName of k ms) [
+      | true ↦ λ z. absurd (cc)
+      | false ↦ λ z. (λ f. absurd (cc), none_all of k ms z)
     ] z
 
 -- a field is meant by what the fields of the names `ns` leave exactly if it is by all members
-pub one_field : {A C : Type 0} (once : Bool) (reads : Tree → A → Type 0) (of : Tree → Option C) (missing : A → Type 0)
-    (n : Name) (ns : List Name) (ms : Members) (v : A)
-    → OnceAnd once n (left ns ms) (LastMemberReads (missing v) (λ t. reads t v) of n (left ns ms))
-    ↔ FieldReads (is_among ns n) once reads of missing n ms v
-one_field once reads of missing n ns ms v =
-    let P : Members → Type 0 = λ ms. LastMemberReads (missing v) (λ t. reads t v) of n ms in
+pub one_field : {A C : Type 0} (rule : ValueRule A C) (n : Name) (ns : List Name) (ms : Members) (v : A)
+    → OnceAnd rule.once n (left ns ms) (LastMemberReads (rule.missing v) (λ t. rule.reads t v) rule.of n (left ns ms))
+    ↔ FieldReads (is_among ns n) rule n ms v
+one_field rule n ns ms v =
+    let Is : Tree → Type 0 = λ t. rule.reads t v in
+    let P : Members → Type 0 = λ ms. LastMemberReads (rule.missing v) Is rule.of n ms in
     elim (is_among ns n) as (λ b. is_among ns n ≡ b
-    → OnceAnd once n (left ns ms) (P (left ns ms)) ↔ FieldReads b once reads of missing n ms v) [
+    → OnceAnd rule.once n (left ns ms) (P (left ns ms)) ↔ FieldReads b rule n ms v) [
       | true ↦ λ e.
           let z = gone n ns e ms in
-          let r = lone (missing v) (λ t. reads t v) of n (left ns ms) z in
-          elim once as (λ b. OnceAnd b n (left ns ms) (P (left ns ms)) ↔ missing v) [
+          let l = none_last n (left ns ms) z in
+          let r : P (left ns ms) ↔ rule.missing v = (
+            λ h. subst (λ o. MatchOption o (rule.missing v) Is) l h.1,
+            λ h. (none_all rule.of n (left ns ms) z, subst (λ o. MatchOption o (rule.missing v) Is) (sym l) h),
+          ) in
+          elim rule.once as (λ b. OnceAnd b n (left ns ms) (P (left ns ms)) ↔ rule.missing v) [
             | false ↦ r
             | true ↦ (λ h. r.0 h.1, λ h. (omega (arith, z), r.1 h))
           ]
       | false ↦ λ e.
           let z = count-left n ns e ms in
-          let r = moved (missing v) (λ t. reads t v) of n ns e ms in
-          elim once as (λ b. OnceAnd b n (left ns ms) (P (left ns ms)) ↔ OnceAnd b n ms (P ms)) [
+          let a = all-left rule.of n ns e ms in
+          let l = last-left n ns e ms in
+          let r : P (left ns ms) ↔ P ms = (
+            λ h. (a.0 h.0, subst (λ o. MatchOption o (rule.missing v) Is) l h.1),
+            λ h. (a.1 h.0, subst (λ o. MatchOption o (rule.missing v) Is) (sym l) h.1),
+          ) in
+          elim rule.once as (λ b. OnceAnd b n (left ns ms) (P (left ns ms)) ↔ OnceAnd b n ms (P ms)) [
             | false ↦ r
             | true ↦ (λ h. (omega (arith, z, h.0), r.0 h.1), λ h. (omega (arith, z, h.0), r.1 h.1))
           ]

@@ -7,7 +7,7 @@ use Rattle.miniserde_model.specs.Tree.{Tree, Members, no_members, member}
 use Rattle.miniserde_model.specs.Normal.{or_else, last_of}
 use Rattle.miniserde_read.specs.Meaning.{Meaning}
 use Rattle.miniserde_read.specs.types.Objects.{Name}
-use Rattle.miniserde_record.specs.Fields.{other_members, LastMemberReads, count_named, OnceAnd, MissingReads, FieldsRead}
+use Rattle.miniserde_record.specs.Fields.{other_members, LastMemberReads, count_named, OnceAnd, MissingReads, value_rule, FieldsRead}
 use Rattle.miniserde_record.specs.laws.Left.{left, left-append, left-front}
 use Rattle.miniserde_record.specs.Marks.{has_no_members, is_among, all_among}
 
@@ -51,11 +51,11 @@ module _ {A V S D : Type 0} (once : Bool) (m : Meaning A) (given : Tree) (absent
     (before : List Name) (n : Name) (own : is_among before n ≡ false) (ns : List Name) (ms : Members) (v : A × V) where
   -- the members mean the values v of the field and the later ones, with the given tree if the field is missing
   abbrev Given : Members → Type 0
-  Given ms = FieldsRead once m.reads m.from_tree (MissingReads m (Some given) absent) rest before (n ∷ ns) ms v
+  Given ms = FieldsRead (record { first = value_rule once (Some given) m absent; later = rest }) before (n ∷ ns) ms v
 
   -- the members mean the values v of the field and the later ones, without a given tree
   abbrev Plain : Members → Type 0
-  Plain ms = FieldsRead once m.reads m.from_tree (MissingReads m None absent) rest before (n ∷ ns) ms v
+  Plain ms = FieldsRead (record { first = value_rule once None m absent; later = rest }) before (n ∷ ns) ms v
 
   -- `default`: members without the name mean what they would beside a member of that name with the given tree
   pub given-missing : last_of n ms ≡ None → Given ms ↔ Plain (member n given ms)

@@ -7,10 +7,10 @@ use Rattle.std.specs.Option.{option_or}
 use Rattle.miniserde.specs.Tree.{Tree, null, members, Members, no_members, member}
 use Rattle.miniserde.specs.Objects.{Name}
 use Rattle.miniserde.specs.Options.{option_of}
-use Rattle.miniserde.specs.Fields.{content_pair, last_content}
+use Rattle.miniserde.specs.Fields.{content_pair, FieldRule, last_content}
 use Rattle.refused.specs.Agree.{AgreeAt, Pairwise, trees_named}
 use Rattle.refused.specs.Ways.{DependsAt}
-use Rattle.refused.specs.Wrong.{alone, first_alone, name_or_empty}
+use Rattle.refused.specs.Wrong.{alone, any_number, first_alone, name_or_empty}
 
 pub none-some : {C : Type 0} (o : Option C) → o ≡ None → IsSome o → ⊥
 none-some o n s = true≢false (sym s ∙ ap is_some n)
@@ -39,7 +39,15 @@ trees_of (n ∷ ns) ms = trees_named n ms
 abbrev pub ends : {C : Type 0} → Option C → Option (Option C) → Option (C × Unit {0})
 ends absent o = option_and_then (λ o. option_and_then (content_pair (Some (tt {0}))) (option_or o absent)) o
 
-module _ {C : Type 0} (once : Bool) (absent : Option C) (of : Tree → Option C) where
+module _ {C : Type 0} (rule : FieldRule C) where
+  -- what the members give of the name, after the content d
+  abbrev last : Name → Option C → Members → Option (Option C)
+  last n d ms = last_content rule.once rule.of n d ms
+
+  -- the trees fit the rule; the first argument says whether one stood before them
+  abbrev AllFit : Bool → List Tree → Type 0
+  AllFit has ts = Fits rule.once (λ t. IsSome (rule.of t)) (IsSome rule.absent) has ts
+
   pair-some : (c : Option C) → IsSome (option_and_then (content_pair (Some (tt {0}))) c) → IsSome c
   pair-some None h = h
   pair-some (Some x) h = refl
@@ -49,20 +57,20 @@ module _ {C : Type 0} (once : Bool) (absent : Option C) (of : Tree → Option C)
   some-pair (Some x) h = refl
 
   -- the trees of one name give a content exactly if they fit
-  fits-last : (n : Name) (d : Option C) (ms : Members) → IsSome (ends absent (last_content once of n d ms))
-      → Fits once (λ t. IsSome (of t)) (IsSome absent) (is_some d) (trees_named n ms)
-  fits-last n None no_members h = pair-some absent h
+  fits-last : (n : Name) (d : Option C) (ms : Members) → IsSome (ends rule.absent (last n d ms))
+      → AllFit (is_some d) (trees_named n ms)
+  fits-last n None no_members h = pair-some rule.absent h
   fits-last n (Some d) no_members h = tt
   fits-last n d (member k t ms) h =
-      elim (bytes_eq k n) as (λ b. IsSome (ends absent (cond b (cond (once && is_some d) None
-      (option_and_then (λ c. last_content once of n (Some c) ms) (of t))) (last_content once of n d ms)))
-      → Fits once (λ t. IsSome (of t)) (IsSome absent) (is_some d) (cond b (t ∷ trees_named n ms) (trees_named n ms))) [
-        | true ↦ elim (once && is_some d) as (λ b. IsSome (ends absent (cond b None
-            (option_and_then (λ c. last_content once of n (Some c) ms) (of t))))
-            → (b ≡ false) × IsSome (of t) × Fits once (λ t. IsSome (of t)) (IsSome absent) true (trees_named n ms)) [
+      elim (bytes_eq k n) as (λ b. IsSome (ends rule.absent (cond b (cond (rule.once && is_some d) None
+      (option_and_then (λ c. last n (Some c) ms) (rule.of t))) (last n d ms)))
+      → AllFit (is_some d) (cond b (t ∷ trees_named n ms) (trees_named n ms))) [
+        | true ↦ elim (rule.once && is_some d) as (λ b. IsSome (ends rule.absent (cond b None
+            (option_and_then (λ c. last n (Some c) ms) (rule.of t))))
+            → (b ≡ false) × IsSome (rule.of t) × AllFit true (trees_named n ms)) [
               | true ↦ λ h. absurd (none-some {C = C × Unit {0}} None refl h)
-              | false ↦ elim (of t) as (λ o. IsSome (ends absent (option_and_then (λ c. last_content once of n (Some c) ms) o))
-                  → (false ≡ false) × IsSome o × Fits once (λ t. IsSome (of t)) (IsSome absent) true (trees_named n ms)) [
+              | false ↦ elim (rule.of t) as (λ o. IsSome (ends rule.absent (option_and_then (λ c. last n (Some c) ms) o))
+                  → (false ≡ false) × IsSome o × AllFit true (trees_named n ms)) [
                     | None ↦ λ h. absurd (none-some {C = C × Unit {0}} None refl h)
                     | Some c ↦ λ h. (refl, refl, fits-last n (Some c) ms h)
                   ]
@@ -71,22 +79,22 @@ module _ {C : Type 0} (once : Bool) (absent : Option C) (of : Tree → Option C)
       ] h
 
   last-fits : (n : Name) (d : Option C) (ms : Members)
-      → Fits once (λ t. IsSome (of t)) (IsSome absent) (is_some d) (trees_named n ms)
-      → IsSome (ends absent (last_content once of n d ms))
-  last-fits n None no_members h = some-pair absent h
+      → AllFit (is_some d) (trees_named n ms)
+      → IsSome (ends rule.absent (last n d ms))
+  last-fits n None no_members h = some-pair rule.absent h
   last-fits n (Some d) no_members h = refl
   last-fits n d (member k t ms) h =
       elim (bytes_eq k n) as (λ b.
-      Fits once (λ t. IsSome (of t)) (IsSome absent) (is_some d) (cond b (t ∷ trees_named n ms) (trees_named n ms))
-      → IsSome (ends absent (cond b (cond (once && is_some d) None
-      (option_and_then (λ c. last_content once of n (Some c) ms) (of t))) (last_content once of n d ms)))) [
-        | true ↦ elim (once && is_some d) as (λ b.
-            (b ≡ false) × IsSome (of t) × Fits once (λ t. IsSome (of t)) (IsSome absent) true (trees_named n ms)
-            → IsSome (ends absent (cond b None (option_and_then (λ c. last_content once of n (Some c) ms) (of t))))) [
+      AllFit (is_some d) (cond b (t ∷ trees_named n ms) (trees_named n ms))
+      → IsSome (ends rule.absent (cond b (cond (rule.once && is_some d) None
+      (option_and_then (λ c. last n (Some c) ms) (rule.of t))) (last n d ms)))) [
+        | true ↦ elim (rule.once && is_some d) as (λ b.
+            (b ≡ false) × IsSome (rule.of t) × AllFit true (trees_named n ms)
+            → IsSome (ends rule.absent (cond b None (option_and_then (λ c. last n (Some c) ms) (rule.of t))))) [
               | true ↦ λ h. absurd (true≢false h.0)
-              | false ↦ elim (of t) as (λ o.
-                  (false ≡ false) × IsSome o × Fits once (λ t. IsSome (of t)) (IsSome absent) true (trees_named n ms)
-                  → IsSome (ends absent (option_and_then (λ c. last_content once of n (Some c) ms) o))) [
+              | false ↦ elim (rule.of t) as (λ o.
+                  (false ≡ false) × IsSome o × AllFit true (trees_named n ms)
+                  → IsSome (ends rule.absent (option_and_then (λ c. last n (Some c) ms) o))) [
                     | None ↦ λ h. absurd (none-some {C = C} None refl h.1)
                     | Some c ↦ λ h. last-fits n (Some c) ms h.2
                   ]
@@ -94,14 +102,15 @@ module _ {C : Type 0} (once : Bool) (absent : Option C) (of : Tree → Option C)
         | false ↦ last-fits n d ms
       ] h
 
-  alone-fits : (names : List Name) (ms : Members) → IsSome (alone once absent of (first_alone names) (members ms))
-      → Fits once (λ t. IsSome (of t)) (IsSome absent) false (trees_of names ms)
-  alone-fits [] ms h = pair-some absent h
+  alone-fits : (names : List Name) (ms : Members) → IsSome (alone rule (first_alone names) (members ms))
+      → AllFit false (trees_of names ms)
+  alone-fits [] ms h = pair-some rule.absent h
   alone-fits (n ∷ ns) ms h = fits-last n None ms h
 
-  fits-alone : (names : List Name) (ms : Members) → Fits once (λ t. IsSome (of t)) (IsSome absent) false (trees_of names ms)
-      → IsSome (alone once absent of (first_alone names) (members ms))
-  fits-alone [] ms h = some-pair absent h
+  fits-alone : (names : List Name) (ms : Members)
+      → AllFit false (trees_of names ms)
+      → IsSome (alone rule (first_alone names) (members ms))
+  fits-alone [] ms h = some-pair rule.absent h
   fits-alone (n ∷ ns) ms h = last-fits n None ms h
 
 module _ {P Q R : Tree → Type 0} {A B D : Type 0} (once twice : Bool) (pass : (t : Tree) → P t → Q t → R t) (lack : A → B → D) where
@@ -110,16 +119,24 @@ module _ {P Q R : Tree → Type 0} {A B D : Type 0} (once twice : Bool) (pass : 
   fits-both true [] p q = tt
   fits-both has (t ∷ ts) p q = (refl, pass t p.1 q.1, fits-both true ts p.2 q.2)
 
--- a field that may stand twice gives a content if two others of its name do, and each tree and its lack follow
-pub alone-both : {C D E : Type 0} (once twice : Bool) (absent : Option C) (lacking : Option D) (missing : Option E)
-    (f : Tree → Option C) (g : Tree → Option D) (h : Tree → Option E) (names : List Name)
-    → ((t : Tree) → IsSome (f t) → IsSome (g t) → IsSome (h t)) → (IsSome absent → IsSome lacking → IsSome missing) → (t : Tree)
-    → IsSome (alone once absent f (first_alone names) t) → IsSome (alone twice lacking g (first_alone names) t)
-    → IsSome (alone false missing h (first_alone names) t)
-alone-both once twice absent lacking missing f g h names pass lack (members ms) p q =
-    fits-alone false missing h names ms (fits-both once twice pass lack false (trees_of names ms)
-    (alone-fits once absent f names ms p) (alone-fits twice lacking g names ms q))
-alone-both {C} once twice absent lacking missing f g h names pass lack t p q = absurd (none-some {C = C × Unit {0}} None refl p)
+-- what gives a content by two rules gives one by the third
+pub record GivesAsBoth {C D E : Type 0} (one : FieldRule C) (two : FieldRule D) (to : FieldRule E) : Type 0 where
+  -- any number of members may have the name
+  pub many : to.once ≡ false
+  -- a tree does
+  pub tree : (t : Tree) → IsSome (one.of t) → IsSome (two.of t) → IsSome (to.of t)
+  -- a missing field does
+  pub absent : IsSome one.absent → IsSome two.absent → IsSome to.absent
+
+-- a field gives a content by a rule if it does by two others and each tree and a missing field follow (`GivesAsBoth`)
+pub alone-both : {C D E : Type 0} {one : FieldRule C} {two : FieldRule D} {to : FieldRule E} → GivesAsBoth one two to
+    → (names : List Name) (t : Tree) → IsSome (alone one (first_alone names) t) → IsSome (alone two (first_alone names) t)
+    → IsSome (alone to (first_alone names) t)
+alone-both {one = one} {two = two} {to = to} as_both names (members ms) p q =
+    fits-alone to names ms
+    (rw as_both.many (fits-both one.once two.once as_both.tree as_both.absent false (trees_of names ms)
+    (alone-fits one names ms p) (alone-fits two names ms q)))
+alone-both {C = C} as_both names t p q = absurd (none-some {C = C × Unit {0}} None refl p)
 
 module _ {P : Tree → Type 0} {R : Tree → Tree → Type 0} (A : Type 0) (once : Bool) (pass : (t u : Tree) → R t u → P t → P u) where
   fits-pairwise : (has : Bool) (ts us : List Tree) → Pairwise R ts us → Fits once P A has ts → Fits once P A has us
@@ -136,14 +153,14 @@ of-first [] rest ms ls p = tt
 of-first (n ∷ ns) rest ms ls p = p
 
 -- what a field gives depends on the members of its name, as what it gives of their trees depends on them
-pub alone-depends : {C : Type 0} (once : Bool) (absent : Option C) (of : Tree → Option C) (names rest : List Name) → DependsAt of rest
-    → DependsAt (alone once absent of (first_alone names)) (name_or_empty names ∷ rest)
-alone-depends once absent of names rest d t u (inl e) s = subst (λ t. IsSome (alone once absent of (first_alone names) t)) e s
-alone-depends once absent of names rest d t u (inr (ms, ls, e, f, p)) s =
-    let o = subst (λ t. IsSome (alone once absent of (first_alone names) t)) e s in
-    subst (λ t. IsSome (alone once absent of (first_alone names) t)) (sym f)
-    (fits-alone once absent of names ls (fits-pairwise (IsSome absent) once d false (trees_of names ms) (trees_of names ls)
-    (of-first names rest ms ls p) (alone-fits once absent of names ms o)))
+pub alone-depends : {C : Type 0} (rule : FieldRule C) (names rest : List Name) → DependsAt rule.of rest
+    → DependsAt (alone rule (first_alone names)) (name_or_empty names ∷ rest)
+alone-depends rule names rest d t u (inl e) s = subst (λ t. IsSome (alone rule (first_alone names) t)) e s
+alone-depends rule names rest d t u (inr (ms, ls, e, f, p)) s =
+    let o = subst (λ t. IsSome (alone rule (first_alone names) t)) e s in
+    subst (λ t. IsSome (alone rule (first_alone names) t)) (sym f)
+    (fits-alone rule names ls (fits-pairwise (IsSome rule.absent) rule.once d false (trees_of names ms) (trees_of names ls)
+    (of-first names rest ms ls p) (alone-fits rule names ms o)))
 
 option-cases : {C : Type 0} (of : Tree → Option C) (t : Tree) → IsSome (option_of of t) → (t ≡ null) ⊎ IsSome (of t)
 option-cases of null s = inl refl
@@ -153,18 +170,24 @@ some-option : {C : Type 0} (of : Tree → Option C) (t : Tree) → IsSome (of t)
 some-option of null s = refl
 some-option of t s = some-map Some (of t) s
 
--- an optional value is there if the value inside is, or the tree is null
+-- what content members give an optional field without marks
+abbrev pub optional_rule : {C : Type 0} → (Tree → Option C) → FieldRule (Option C)
+optional_rule of = any_number (Some None) (option_of of)
+
+-- an optional field gives a content by h if it does by f and g, if a tree does: it does too if the tree is null
 pub option-both : {C D E : Type 0} (f : Tree → Option C) (g : Tree → Option D) (h : Tree → Option E)
-    → ((t : Tree) → IsSome (f t) → IsSome (g t) → IsSome (h t)) → (t : Tree) → IsSome (option_of f t) → IsSome (option_of g t)
-    → IsSome (option_of h t)
-option-both f g h pass t p q =
-    elim (option-cases f t p) as (λ _. IsSome (option_of h t)) [
+    → ((t : Tree) → IsSome (f t) → IsSome (g t) → IsSome (h t)) → GivesAsBoth (optional_rule f) (optional_rule g) (optional_rule h)
+option-both f g h pass = record {
+  many = refl;
+  tree = λ t p q. elim (option-cases f t p) as (λ _. IsSome (option_of h t)) [
+    | inl e ↦ subst (λ t. IsSome (option_of h t)) (sym e) refl
+    | inr a ↦ elim (option-cases g t q) as (λ _. IsSome (option_of h t)) [
       | inl e ↦ subst (λ t. IsSome (option_of h t)) (sym e) refl
-      | inr a ↦ elim (option-cases g t q) as (λ _. IsSome (option_of h t)) [
-        | inl e ↦ subst (λ t. IsSome (option_of h t)) (sym e) refl
-        | inr b ↦ some-option h t (pass t a b)
-      ]
+      | inr b ↦ some-option h t (pass t a b)
     ]
+  ];
+  absent = λ p q. refl;
+}
 
 abbrev is_null : Tree → Bool
 is_null null = true

@@ -1,13 +1,12 @@
 -- The document is a place (`document_way`), and so is what stands in a field of a struct at a place (`field_way`), and in
 -- an optional one (`option_way`). Trees that agree do so the other way round (`agree-turn`).
-use Rattle.std.proofs.Common.{false, List, [], ◌∷◌, ◌++◌, Some, None, inl, inr, refl, sym, subst, append_assoc}
+use Rattle.std.proofs.Common.{List, [], ◌∷◌, ◌++◌, None, inl, inr, refl, sym, subst, append_assoc}
 use Rattle.miniserde.specs.Tree.{Tree}
 use Rattle.miniserde.specs.Objects.{Name}
-use Rattle.miniserde.specs.Options.{option_of}
 use Rattle.refused.specs.Agree.{AgreeAt, Pairwise}
 use Rattle.refused.specs.Ways.{IsWay}
-use Rattle.refused.specs.Wrong.{Gives, alone, document_gives, field_gives, optional_gives, first_alone, name_or_empty}
-use Rattle.refused.specs.laws.Alone.{alone-both, alone-depends, option-both, option-depends}
+use Rattle.refused.specs.Wrong.{Gives, alone, any_number, document_gives, field_gives, optional_gives, first_alone, name_or_empty}
+use Rattle.refused.specs.laws.Alone.{alone-both, alone-depends, optional_rule, option-both, option-depends}
 
 pairwise-turn : {R : Tree → Tree → Type 0} → ((t u : Tree) → R t u → R u t) → (ts us : List Tree) → Pairwise R ts us → Pairwise R us ts
 pairwise-turn turn [] [] p = tt
@@ -30,19 +29,18 @@ module _ {gives : Gives} {here : List Name} (way : IsWay gives here) (names : Li
 
   pub field_way : IsWay (field_gives gives names) (here ++ name_or_empty names ∷ [])
   field_way = record {
-    both = λ f g h pass. way.both (alone false None f (first_alone names)) (alone false None g (first_alone names))
-        (alone false None h (first_alone names)) (alone-both false false None None None f g h names pass (λ a b. a));
-    depends = λ of path d t u a. way.depends (alone false None of (first_alone names)) (name_or_empty names ∷ path)
-        (alone-depends false None of names path d) t u (longer path t u a);
+    both = λ f g h pass. way.both (alone (any_number None f) (first_alone names)) (alone (any_number None g) (first_alone names))
+        (alone (any_number None h) (first_alone names))
+        (alone-both {one = any_number None f} {two = any_number None g} {to = any_number None h}
+        (record { many = refl; tree = pass; absent = λ a b. a }) names);
+    depends = λ of path d t u a. way.depends (alone (any_number None of) (first_alone names)) (name_or_empty names ∷ path)
+        (alone-depends (any_number None of) names path d) t u (longer path t u a);
   }
 
   pub option_way : IsWay (optional_gives gives names) (here ++ name_or_empty names ∷ [])
   option_way = record {
-    both = λ f g h pass. way.both (alone false (Some None) (option_of f) (first_alone names))
-        (alone false (Some None) (option_of g) (first_alone names)) (alone false (Some None) (option_of h) (first_alone names))
-        (alone-both false false (Some None) (Some None) (Some None) (option_of f) (option_of g) (option_of h) names
-        (option-both f g h pass) (λ a b. refl));
-    depends = λ of path d t u a. way.depends (alone false (Some None) (option_of of) (first_alone names))
-        (name_or_empty names ∷ path)
-        (alone-depends false (Some None) (option_of of) names path (option-depends of path d)) t u (longer path t u a);
+    both = λ f g h pass. way.both (alone (optional_rule f) (first_alone names)) (alone (optional_rule g) (first_alone names))
+        (alone (optional_rule h) (first_alone names)) (alone-both (option-both f g h pass) names);
+    depends = λ of path d t u a. way.depends (alone (optional_rule of) (first_alone names)) (name_or_empty names ∷ path)
+        (alone-depends (optional_rule of) names path (option-depends of path d)) t u (longer path t u a);
   }

@@ -1,8 +1,8 @@
 -- A tree means a service exactly if `IsService` holds of both. `says` puts the value of a missing field in a user's
 -- words; all else of `IsService` is what `reads` says.
-use Rattle.std.proofs.Common.{◌≡◌, ℕ, Bool, true, List, [], ◌∷◌, None, refl, sym, ap, codes, string_bytes, arith}
-use Rattle.std.specs.Prelude.{◌↔◌, option_map}
-use Rattle.miniserde.specs.Tree.{Tree, members, nonneg, str, truth, list, no_trees}
+use Rattle.std.proofs.Common.{◌≡◌, ℕ, Bool, true, List, [], ◌∷◌, refl, sym, ap, codes, string_bytes, arith}
+use Rattle.std.specs.Prelude.{◌↔◌}
+use Rattle.miniserde.specs.Tree.{Tree, members, nonneg, str, truth, no_trees}
 use Rattle.miniserde.specs.Words.{string_of}
 use Rattle.miniserde.specs.Integers.{unsigned_of, ReadsUnsigned}
 use Rattle.miniserde.specs.Lists.{EachReads}
@@ -32,19 +32,15 @@ returns c (members ms) s =
     let text = string_meaning string_bytes in
     let tags = list_meaning text (λ v. v.items) in
     let host : Tree → Type 0 = λ t. text.reads t s.host in
-    let r2 = says text.from_tree (host (str (codes "localhost"))) (string_bytes s.host ≡ codes "localhost") host
-    host (same host) (local (string_bytes s.host)) (codes "host") ms in
+    let r2 = says text.from_tree (same host) (local (string_bytes s.host)) (codes "host") ms in
     let port : Tree → Type 0 = λ t. ReadsUnsigned 16 t s.port in
-    let r3 = says (unsigned_of 16) (port (nonneg 8080)) (s.port ≡ 8080) port port (same port) (http s.port) (codes "port") ms in
+    let r3 = says (unsigned_of 16) (same port) (http s.port) (codes "port") ms in
     let secure : Tree → Type 0 = λ t. boolean_meaning.reads t s.secure in
-    let r4 = says boolean_meaning.from_tree (secure (truth true)) (s.secure ≡ true) secure secure (same secure)
-    (yes s.secure) (codes "secure") ms in
+    let r4 = says boolean_meaning.from_tree (same secure) (yes s.secure) (codes "secure") ms in
     let has : Tree → Type 0 = λ t. tags.reads t s.tags in
-    let r5 = says tags.from_tree (has (list no_trees)) (s.tags.items ≡ []) has has (same has)
-    (nothing text.reads s.tags.items) (codes "tags") ms in
+    let r5 = says tags.from_tree (same has) (nothing text.reads s.tags.items) (codes "tags") ms in
     let note : Tree → Type 0 = λ t. OptionReads text.reads t s.note in
-    let r6 = says (option_of string_of) (None ≡ option_map string_bytes s.note) (s.note ≡ None) note
-    note (same note) (none_counts string_bytes s.note) (codes "note") ms in (
+    let r6 = says (option_of string_of) (same note) (none_counts string_bytes s.note) (codes "note") ms in (
       λ r. (
         r.1.1.1.1.1.1,
         r.0.0,

@@ -2,8 +2,8 @@
 -- field: `same_field` and `other_field` carry over the three old fields, and `says_missing` gives the two new fields
 -- their defaults.
 use Rattle.std.proofs.Common.{◌≡◌, ℕ, [], ◌∷◌, Some, None, refl, sym, ap, codes, string_bytes, pos, arith}
-use Rattle.std.specs.Prelude.{◌↔◌, option_map}
-use Rattle.miniserde.specs.Tree.{members, nonneg}
+use Rattle.std.specs.Prelude.{◌↔◌}
+use Rattle.miniserde.specs.Tree.{Tree, members, nonneg}
 use Rattle.miniserde.specs.Words.{string_of}
 use Rattle.miniserde.specs.Integers.{ReadsUnsigned}
 use Rattle.miniserde.specs.Options.{OptionReads, option_of}
@@ -14,6 +14,9 @@ use Rattle.examples.specs.contracts.tasks.OldStateFromJson.TheImpl as was
 use Rattle.examples.specs.contracts.tasks.StateFromJson.TheImpl as is
 use Rattle.examples.proofs.Kept.{same_field, other_field, says_missing}
 use Rattle.examples.proofs.versions.task_upgraded.Goals as goal
+
+same : (P : Tree → Type 0) (t : Tree) → P t ↔ P t
+same P t = (λ r. r, λ r. r)
 
 http : (n : ℕ) → ReadsUnsigned 32 (nonneg 3) n ↔ (n ≡ 3)
 http n = (λ h. let q : 3 ≡ n = cc in sym q, λ e. (ap nonneg (sym e), omega (arith, e)))
@@ -33,12 +36,9 @@ returns c (members ms) v w r no_retries no_note =
     let f3 = other_field was.ghosts.means.reads was.ghosts.means.from_tree was.ghosts.means.reads_agrees
     is.ghosts.means.reads is.ghosts.means.from_tree is.ghosts.means.reads_agrees state_of c.states_kept.ensures
     n3 ms v.state w.state r.1.1.0 in
-    let g4 = says u32.from_tree (u32.reads (nonneg 3) w.retries) (w.retries ≡ 3) (λ t. u32.reads t w.retries)
-    (λ t. u32.reads t w.retries) (λ t. (λ r. r, λ r. r)) (http w.retries) n4 ms in
+    let g4 = says u32.from_tree (same (λ t. u32.reads t w.retries)) (http w.retries) n4 ms in
     let m4 = says_missing (w.retries ≡ 3) (λ t. u32.reads t w.retries) u32.from_tree n4 ms no_retries in
-    let g5 = says (option_of string_of) (None ≡ option_map string_bytes w.note) (w.note ≡ None)
-    (λ t. OptionReads text.reads t w.note) (λ t. OptionReads text.reads t w.note) (λ t. (λ r. r, λ r. r))
-    (none_counts string_bytes w.note) n5 ms in
+    let g5 = says (option_of string_of) (same (λ t. OptionReads text.reads t w.note)) (none_counts string_bytes w.note) n5 ms in
     let m5 = says_missing (w.note ≡ None) (λ t. OptionReads text.reads t w.note) (option_of string_of) n5 ms no_note in
     let pos_back : (m n : ℕ) → pos m ≡ pos n → m ≡ n = λ m n e. cc in (
       λ q. (pos_back w.id v.id (f1.0 q.0), f2.0 q.1.0, f3.0 q.1.1.0, m4.0 (g4.0 q.1.1.1.0), m5.0 (g5.0 q.1.1.1.1.0)),

@@ -1,6 +1,6 @@
 -- A field and the later ones (`field-right`, `into-optional-wrong`).
 use Rattle.std.proofs.Common.{Some, None}
-use Rattle.miniserde.specs.Fields.{missing_content}
+use Rattle.miniserde.specs.Fields.{field_rule, missing_content}
 use Rattle.miniserde.specs.Meanings.{option_meaning}
 use Rattle.refused.specs.Wrong.{later_names}
 use Rattle.refused.proofs.Fields.{before_later, field-right, into-optional-wrong, later-apart}
@@ -12,7 +12,7 @@ returns-clause-right g c =
     let m = g.R.Probes in
     let names = g.N.Names.names in
     λ before apart.
-    field-right g.M.Repeats.once (missing_content of g.M.Mark.given (Some None)) of.from_tree m.meaning.from_members
+    field-right (field_rule g.M.Repeats.once g.M.Mark.given of (Some None)) m.meaning.from_members
     m.meaning.empty before names apart g.W.Way.is_way (m.right g.W.Way.gives (later_names names))
     (c.tells.ensures.right (before_later before names) (later-apart before names apart))
 

@@ -1,5 +1,5 @@
 -- A field and the later ones (`field-right`, `probe-wrong`).
-use Rattle.miniserde.specs.Fields.{missing_content}
+use Rattle.miniserde.specs.Fields.{field_rule}
 use Rattle.refused.specs.Wrong.{later_names}
 use Rattle.refused.proofs.Fields.{before_later, field-right, later-apart, probe-wrong}
 use Rattle.refused.proofs.probes.ProbeProbes.tells.Goals as goal
@@ -10,7 +10,7 @@ returns-clause-right g c =
     let m = g.R.Probes in
     let names = g.N.Names.names in
     λ before apart.
-    field-right g.M.Repeats.once (missing_content of g.M.Mark.given g.T.FromJson.absent) of.from_tree m.meaning.from_members
+    field-right (field_rule g.M.Repeats.once g.M.Mark.given of g.T.FromJson.absent) m.meaning.from_members
     m.meaning.empty before names apart g.W.Way.is_way (m.right g.W.Way.gives (later_names names))
     (c.tells.ensures.right (before_later before names) (later-apart before names apart))
 
@@ -20,6 +20,6 @@ returns-clause-wrong g c =
     let m = g.R.Probes in
     let names = g.N.Names.names in
     λ before apart path t.
-    probe-wrong g.M.Repeats.once (missing_content of g.M.Mark.given g.T.FromJson.absent) of.from_tree m.meaning.from_members
+    probe-wrong (field_rule g.M.Repeats.once g.M.Mark.given of g.T.FromJson.absent) m.meaning.from_members
     m.meaning.empty before names apart g.W.Way.is_way path t
     (c.tells.ensures.wrong (before_later before names) (later-apart before names apart) path t)
