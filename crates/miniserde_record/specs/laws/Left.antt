@@ -1,7 +1,7 @@
 -- The members that are left without those of some names. Of any other name they say what all members say (`last-left`,
 -- `all-left`, `count-left`), and of those names nothing (`gone`). So a field may be looked at in what the fields before it leave,
 -- or in all members (`one_field`).
-use Rattle.std.proofs.Common.{◌≡◌, suc, Bool, true, false, ◌||◌, cond, List, [], ◌∷◌, ◌++◌, Option, Some, None}
+use Rattle.std.proofs.Common.{◌≡◌, suc, true, false, ◌||◌, cond, List, [], ◌∷◌, ◌++◌, Option, Some, None}
 use Rattle.std.proofs.Common.{refl, sym, ap, subst, ◌∙◌, true≢false, arith}
 use Rattle.std.specs.Prelude.{◌↔◌, IsSome, MatchOption, bytes_eq}
 use Rattle.std.proofs.lemmas.Slice.Eq.{bytes_eq-Decides}
