@@ -220,7 +220,10 @@ class Reader:
             return
         if found := NO_TYPE.match(bare):
             self.open_braces = bare.count("{") - bare.count("}")
-            raise Refused(f"line {number}: `{found[1]}` is no type: write it into a file of `src`, and leave it out here: {bare}")
+            instead = "write it into a file of `src`, and leave it out here"
+            if re.match(r"impl (?:\w+::)*(?:TryFrom|From)<.*> for ", bare):
+                instead = "leave it out: of a newtype that serde makes by `try_from` and `into`, `check FUNCTION` says what is taken"
+            raise Refused(f"line {number}: `{found[1]}` is no type: {instead}: {bare}")
         begun = BEGUN.match(bare)
         try:
             newtype = newtype_of(bare, number, above)

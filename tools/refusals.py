@@ -54,7 +54,8 @@ UNREAD = {
     "Duration Instant SystemTime": "an integer, or a newtype of one",
     "Result": "a struct of two `Option`s",
     "NonZeroU8 NonZeroU16 NonZeroU32 NonZeroU64 NonZeroUsize NonZeroI8 NonZeroI16 NonZeroI32 NonZeroI64 NonZeroIsize": "a newtype of an integer with `check`",
-    "IpAddr Ipv4Addr Ipv6Addr SocketAddr": "a newtype of it with `text`",
+    "IpAddr Ipv4Addr Ipv6Addr SocketAddr Uuid Url": "a newtype of it with `text`",
+    "DateTime NaiveDate NaiveDateTime NaiveTime": "a newtype of the toolchain's `jiff` with `text`, as `Day` (docs/YOUR-OWN-TYPES.md)",
 }
 INSTEAD = {name: instead for names, instead in UNREAD.items() for name in names.split()}
 
@@ -98,10 +99,10 @@ def check_type(of, known, line):
     for name in re.findall(r"(?<![\w:])" + NAME, of):
         if name in INSTEAD and name not in known:
             raise Refused(f"line {line}: `{name}` is not read: {INSTEAD[name]}")
-    for library, name in re.findall(rf"\b(std|core|alloc|serde_json)::(?:\w+::)*({NAME})", of):
+    for library, name in re.findall(rf"\b(std|core|alloc|serde_json|chrono|uuid|url)::(?:\w+::)*({NAME})", of):
         if library == "serde_json":
             raise Refused(f"line {line}: `{name}` of serde_json is not read: `miniserde::json::{'Object' if name == 'Map' else name}`: {of}")
-        if name in INSTEAD:
+        if name in INSTEAD and name not in known:
             raise Refused(f"line {line}: `{name}` is not read: {INSTEAD[name]}")
 
 
