@@ -109,8 +109,8 @@ pub extern "C" fn miniserde_equal(alloc: Global, a: &[u8], b: &[u8]) -> u32
     }
 }
 
-/// Returns `OK` if the bytes are JSON in UTF-8, `INVALID` if they are not, and `MEMORY` if an allocation fails. Needs
-/// one bit of memory for each level of depth, in words of 64, and no other.
+/// Returns `OK` if the bytes are JSON in UTF-8, `INVALID` if they are not, and `MEMORY` if an allocation fails.
+/// Allocates 32 bytes for up to 256 levels of depth, and at most two bits a level beyond that (three while they grow).
 #[unsafe(no_mangle)]
 pub extern "C" fn miniserde_is_json(alloc: Global, text: &[u8]) -> u32
     ensures ok { result ≡ OK → (t : Tree) × IsJson text.now t }

@@ -17,8 +17,9 @@ use miniserde_model::error::{Error, Result};
 use miniserde_text::json::lex::{After, Event, Kind};
 use miniserde_text::stack::Stack;
 
-/// Any JSON value, of which nothing is kept. Reading it takes no recursion, one bit of memory for each level of depth,
-/// in words of 64, and room for the decoded text if the value is itself a string with a backslash.
+/// Any JSON value, of which nothing is kept. Reading it does not recurse. It allocates 32 bytes for up to 256 levels of
+/// depth, at most two bits a level beyond that (three while they grow), and room for the decoded text if the value is
+/// itself a string with a backslash.
 #[derive(Drop)]
 pub struct Ignored {}
 
@@ -35,9 +36,9 @@ impl FromJson for Ignored {
     }
 }
 
-/// Skips the value that is due, with its first token. Takes one bit of memory for each level of depth, in words of 64,
-/// and none for strings. Returns `Invalid` if the text has no prefix that is a value, and `Memory` if an allocation
-/// fails.
+/// Skips the value that is due, with its first token. Allocates 32 bytes for up to 256 levels of depth, at most two
+/// bits a level beyond that (three while they grow), and nothing for strings. Returns `Invalid` if the text has no
+/// prefix that is a value, and `Memory` if an allocation fails.
 pub fn skip_due<'a>(source: &mut Source<'a>) -> Result<()>
     requires { source.old.refused ≡ None }
     ensures going { IfOk result (λ _. source.new.refused ≡ None) }

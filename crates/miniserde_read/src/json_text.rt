@@ -67,8 +67,9 @@ pub fn from_slice<T: FromJson>(alloc: Global, bytes: &[u8]) -> Result<T>
     }
 }
 
-/// Returns `Invalid` if the text is not JSON (RFC 8259, section 2), and `Memory` if an allocation fails. Takes one bit
-/// of memory for each level of depth, in words of 64, and none for strings.
+/// Returns `Invalid` if the text is not JSON (RFC 8259, section 2), and `Memory` if an allocation fails. Allocates 32
+/// bytes for up to 256 levels of depth, at most two bits a level beyond that (three while they grow), and nothing for
+/// strings.
 pub fn check_json(alloc: Global, j: &str) -> Result<()>
     ensures ok { IfOk result (λ _. (t : Tree) × IsJson j.now t) }
     ensures invalid { result ≡ Err Error.Invalid → HasNoTree j.now }
