@@ -12,6 +12,8 @@ import urllib.parse
 KEYS = ("nails", "rope/thin", "a b", "%", '"', "é", "€uro", "x" * 200)
 METHODS = ("GET", "GET", "HEAD", "PUT", "PUT", "PUT", "DELETE", "POST")
 HAS_SQLITE = bool(shutil.which("sqlite3"))
+# The host that the programs are told to serve, and hosts that they are not.
+HOST, OTHER_HOSTS = "store.example", ("evil.example", "store.example.evil", "store", "127.0.0.2", "")
 
 
 class Wrong(SystemExit):
@@ -30,14 +32,14 @@ def tag(text):
 class Request:
     """A request for the entry of a key. `text` is the canonical text of what a put means, or None if it means nothing."""
 
-    def __init__(self, method, key, text=None, body="", fields=()):
-        self.method, self.key, self.text, self.body, self.fields = method, key, text, body.encode(), tuple(fields)
+    def __init__(self, method, key, text=None, body="", fields=(), host=HOST):
+        self.method, self.key, self.text, self.body, self.fields, self.host = method, key, text, body.encode(), tuple(fields), host
 
     def target(self):
         return "/entries/" + urllib.parse.quote(self.key, safe="/")
 
     def sent(self):
-        lines = [f"{self.method} {self.target()} HTTP/1.1", "Host: store.example", *(f"{name}: {value}" for name, value in self.fields)]
+        lines = [f"{self.method} {self.target()} HTTP/1.1", f"Host: {self.host}", *(f"{name}: {value}" for name, value in self.fields)]
         if self.body:
             lines.append(f"Content-Length: {len(self.body)}")
         return "\r\n".join([*lines, "", ""]).encode() + self.body
@@ -96,11 +98,11 @@ def problem(body):
     try:
         goods = json.loads(body)
     except ValueError:
-        told["detail"] = "the body is no JSON"
+        told["detail"] = "the body is not valid JSON"
     else:
         if isinstance(goods, dict):
             told["field"] = wrong_field(goods)
-        told = {**told, "detail": f"the field {told['field']} is wrong" if "field" in told else "the body is no object"}
+        told = {**told, "detail": f"the field {told['field']} is wrong" if "field" in told else "the body is not an object"}
     return json.dumps({name: told[name] for name in ("title", "status", "detail", "field") if name in told}, separators=(",", ":"))
 
 
@@ -115,12 +117,14 @@ def listed(entries, request):
 
 def answer(entries, request):
     """Returns the response of a map of entries, as status, fields and body, and the map after it."""
+    if request.host in OTHER_HOSTS:
+        return (421, {}, ""), entries
     if isinstance(request, Listing):
         if request.method not in ("GET", "HEAD"):
             return (405, {"allow": "GET, HEAD"}, ""), entries
         current = listed(entries, request)
         if current is None:
-            said = '{"title":"Bad Request","status":400,"detail":"the limit is no number from 1 to 1000"}'
+            said = '{"title":"Bad Request","status":400,"detail":"`limit` must be a number from 1 to 1000"}'
             return (400, {"content-type": "application/problem+json"}, "" if request.method == "HEAD" else said), entries
     else:
         current = entries.get(request.key)
@@ -137,9 +141,10 @@ def answer(entries, request):
     said = condition(request.fields, current)
     if request.method == "DELETE":
         return ((204, {}, ""), {key: text for key, text in entries.items() if key != request.key}) if said == "met" else ((412, {}, ""), entries)
+    bare = request.method == "HEAD" or dict(request.fields).get("If-None-Match") == "*"
     if said != "met":
-        return ((304, {"etag": tag(current)}, "") if said == "cached" else (412, {}, "")), entries
-    return (200, {"content-type": "application/json", "etag": tag(current)}, "" if request.method == "HEAD" else current), entries
+        return ((304, {} if bare else {"etag": tag(current)}, "") if said == "cached" else (412, {}, "")), entries
+    return (200, {"content-type": "application/json", **({} if bare else {"etag": tag(current)})}, "" if bare else current), entries
 
 
 def rows(path):
@@ -181,4 +186,7 @@ def made_request(made, entries):
     value = made.choice(known)
     value = value if value == "*" else made.choice(["", "W/", '"first", ', '"first", W/']) + value
     fields = made.choice([(), (), (("If-Match", value),), (("If-None-Match", value),)])
-    return made_put(made, key, fields) if method == "PUT" else Request(method, key, fields=fields)
+    request = made_put(made, key, fields) if method == "PUT" else Request(method, key, fields=fields)
+    if made.random() < 0.05:
+        request.host = made.choice(OTHER_HOSTS)
+    return request

@@ -1,6 +1,7 @@
 -- The first elements of a list that rises: each is below each of the others.
 use Rattle.std.proofs.Common.{arith, ◌≡◌, ◌≤◌, inl, inr, ℕ, zero, suc, List, [], ◌∷◌, ◌++◌}
 use Rattle.std.proofs.Common.{map, take, drop, length, refl, sym, ap, subst, ◌∙◌}
+use Rattle.std.proofs.lemmas.List.{length-append}
 use Rattle.std.specs.Cmp.Lexicographic.{slice_cmp}
 use Rattle.std.specs.List.{AllByRecursion}
 use Rattle.std.specs.List.Sorted.{IsStrictlySortedBy}
@@ -52,3 +53,25 @@ pub just : {X : Type 0} (n : ℕ) (xs : List X) (x : X) → Has (drop n xs) x �
 just zero xs x h = refl
 just (suc n) [] x h = absurd h
 just (suc n) (y ∷ xs) x h = ap suc (just n xs x h)
+
+-- a list with a last element is not empty
+pub never_empty : {X : Type 0} (front : List X) (last : X) → front ++ last ∷ [] ≡ [] → ⊥
+never_empty [] last e = absurd (let n = ap length e in omega (arith, n))
+never_empty (x ∷ front) last e = absurd (let n = ap length e in omega (arith, n))
+
+-- two lists that are equal with a last element each are equal without
+pub without_last : {X : Type 0} (xs ys : List X) (a b : X) → xs ++ a ∷ [] ≡ ys ++ b ∷ [] → xs ≡ ys
+without_last [] [] a b e = refl
+without_last [] (y ∷ ys) a b e =
+    let n : 1 ≡ suc (length (ys ++ b ∷ [])) = ap length e in
+    let sum = length-append ys (b ∷ []) in
+    absurd (omega (arith, n, sum))
+without_last (x ∷ xs) [] a b e =
+    let n : suc (length (xs ++ a ∷ [])) ≡ 1 = ap length e in
+    let sum = length-append xs (a ∷ []) in
+    absurd (omega (arith, n, sum))
+without_last (x ∷ xs) (y ∷ ys) a b e =
+    let head : x ≡ y = cc in
+    let tail : xs ++ a ∷ [] ≡ ys ++ b ∷ [] = cc in
+    let rest = without_last xs ys a b tail in
+    λ i. head i ∷ rest i

@@ -11,10 +11,11 @@ mod Effects
 pub mod Serving
 mod Commits
 mod Each
+pub mod Readings
 pub mod Walks
 mod Apart
 mod Cut
-mod Pages
+mod PageLemmas
 mod Counted
 mod Recognized
 mod Reopened

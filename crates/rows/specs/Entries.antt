@@ -1,5 +1,5 @@
 -- The table of the rows: its statements, its schema, and what its rows are.
-use Rattle.std.specs.Prelude.{◌≡◌, ◌⊎◌, ◌↔◌, ◌≤◌, ℕ, min, List, [], ◌∷◌, map, length, codes, true, false, None, String}
+use Rattle.std.specs.Prelude.{◌≡◌, ◌⊎◌, ◌↔◌, ◌≤◌, ◌<◌, ◌+◌, ℕ, min, List, [], ◌∷◌, ◌++◌, map, length, codes, true, false, None, String}
 use Rattle.std.specs.Prelude.{string_bytes, IsTrue, IsPermutation}
 use Rattle.std.specs.declared.cmp.Ordering.TheVariants.{Less}
 use Rattle.sqlite_schema.specs.declared.schema.Column.{Column}
@@ -215,14 +215,30 @@ pub record AreEntries (db : Database) (entries : List (List ℕ × List ℕ)) : 
 abbrev pub IsFrom : List ℕ → List ℕ → Type 0
 IsFrom start key = IsTrue (is_ge (slice_cmp nat_cmp key start))
 
--- The entries are rows of the table from a key on, in the byte order of the keys, each once and at most so many. Of the rows
--- from that key on, one is left out only if so many come before it.
-pub record IsPage (db : Database) (start : List ℕ) (limit : ℕ) (entries : List (List ℕ × List ℕ)) : Type 0 where
+-- the bytes of the keys and bodies of these entries
+abbrev pub bytes_in : List (List ℕ × List ℕ) → ℕ
+bytes_in [] = 0
+bytes_in (e ∷ entries) = length e.0 + length e.1 + bytes_in entries
+
+-- The page has as many entries as it may have, or at least as many bytes.
+abbrev pub IsFull : ℕ → ℕ → List (List ℕ × List ℕ) → Type 0
+IsFull limit max_bytes entries = (length entries ≡ limit) ⊎ (max_bytes ≤ bytes_in entries)
+
+-- Only its last entry brings a page to this many bytes: the entries before the last one, if there are any, have fewer.
+abbrev pub StopsInTime : ℕ → List (List ℕ × List ℕ) → Type 0
+StopsInTime max_bytes entries = (front : List (List ℕ × List ℕ)) (last : List ℕ × List ℕ) → entries ≡ front ++ last ∷ []
+    → (front ≡ [] → ⊥) → bytes_in front < max_bytes
+
+-- The entries are rows of the table whose keys do not come before `start`, in the byte order of the keys, each once. A page has
+-- at most `limit` entries, and ends with the entry that brings it to `max_bytes`. A row from `start` on is missing only if the
+-- page is full and the row comes after all its entries.
+pub record IsPage (db : Database) (start : List ℕ) (limit max_bytes : ℕ) (entries : List (List ℕ × List ℕ)) : Type 0 where
   pub held : (e : List ℕ × List ℕ) → Has entries e → IsFrom start e.0 × Holds db e.0 e.1
   pub rising : IsStrictlySortedBy (slice_cmp nat_cmp) (map (λ e. e.0) entries)
   pub most : length entries ≤ limit
+  pub in_time : StopsInTime max_bytes entries
   pub complete : (k b : List ℕ) → IsFrom start k → Holds db k b → Has entries (k, b)
-      ⊎ ((length entries ≡ limit) × ((e : List ℕ × List ℕ) → Has entries e → slice_cmp nat_cmp e.0 k ≡ Less))
+      ⊎ (IsFull limit max_bytes entries × ((e : List ℕ × List ℕ) → Has entries e → slice_cmp nat_cmp e.0 k ≡ Less))
 
 -- the number of rows of the table, as SQLite counts them: up to the greatest integer of 64 bits
 abbrev pub row_count : Database → ℕ

@@ -1,16 +1,34 @@
-//! The error of a call on rows: that of the database, or that of the JSON.
-ghost use Rattle.std.specs.Prelude.{◌≡◌};
+//! The error of a call on rows.
+ghost use Rattle.std.specs.Prelude.{◌≡◌, ◌↔◌, IsTrue};
+ghost use Rattle.rows.specs.Errors.{IsMemory};
 
+use sqlite::ErrorCode;
 use std::alloc::{AllocError, AllocFailed};
 use std::fmt;
 
 /// Why a row is not written or not read.
 #[derive(Clone, Copy, PartialEq, Eq, Debug)]
 pub enum Error {
-    /// The database refused a statement, the connection is shut, or an allocation of the database failed.
+    /// The database refused a statement or failed, or the connection is shut. If the database's own allocation failed, this
+    /// is `SqliteFailure(OutOfMemory)`.
     Database(sqlite::Error),
-    /// A key or a body means no value of the type, or an allocation failed.
-    Json(miniserde::Error),
+    /// A key or a body does not match the type.
+    Invalid,
+    /// An allocation failed outside of the database.
+    Memory,
+}
+
+impl Error {
+    /// Returns whether an allocation failed, in the database or outside of it.
+    pub fn is_memory(self) -> bool
+        ensures { IsTrue result ↔ IsMemory self }
+    {
+        match self {
+            Error::Database(sqlite::Error::SqliteFailure(ErrorCode::OutOfMemory)) => true,
+            Error::Memory => true,
+            _ => false,
+        }
+    }
 }
 
 impl From<sqlite::Error> for Error {
@@ -24,34 +42,35 @@ impl From<sqlite::Error> for Error {
 }
 
 impl From<miniserde::Error> for Error {
-    ghost use Rattle.rows.specs.declared.error.Error.TheVariants.{Json};
+    ghost use Rattle.rows.specs.Errors.{of_json};
 
-    ghost from_gives = { λ error e. e ≡ Json error };
+    ghost from_gives = { λ error e. e ≡ of_json error };
 
     fn from(error: miniserde::Error) -> Error {
-        Error::Json(error)
+        match error {
+            miniserde::Error::Invalid => Error::Invalid,
+            miniserde::Error::Memory => Error::Memory,
+        }
     }
 }
 
 impl From<AllocError> for Error {
-    ghost use Rattle.miniserde.specs.declared.Error.TheVariants.{Memory};
-    ghost use Rattle.rows.specs.declared.error.Error.TheVariants.{Json};
+    ghost use Rattle.rows.specs.declared.error.Error.TheVariants.{Memory};
 
-    ghost from_gives = { λ _ e. e ≡ Json Memory };
+    ghost from_gives = { λ _ e. e ≡ Memory };
 
-    fn from(error: AllocError) -> Error {
-        Error::Json(miniserde::Error::from(error))
+    fn from(_error: AllocError) -> Error {
+        Error::Memory
     }
 }
 
 impl<T: Drop> From<AllocFailed<T>> for Error {
-    ghost use Rattle.miniserde.specs.declared.Error.TheVariants.{Memory};
-    ghost use Rattle.rows.specs.declared.error.Error.TheVariants.{Json};
+    ghost use Rattle.rows.specs.declared.error.Error.TheVariants.{Memory};
 
-    ghost from_gives = { λ _ e. e ≡ Json Memory };
+    ghost from_gives = { λ _ e. e ≡ Memory };
 
-    fn from(failed: AllocFailed<T>) -> Error {
-        Error::Json(miniserde::Error::from(failed))
+    fn from(_failed: AllocFailed<T>) -> Error {
+        Error::Memory
     }
 }
 
@@ -63,7 +82,8 @@ impl fmt::Display for Error {
     fn fmt<W: fmt::Write>(&self, f: &mut fmt::Formatter<W>) -> fmt::Result {
         match self {
             Error::Database(error) => write!(f, "{error}"),
-            Error::Json(error) => write!(f, "{error}"),
+            Error::Invalid => write!(f, "{}", miniserde::Error::Invalid),
+            Error::Memory => write!(f, "{}", miniserde::Error::Memory),
         }
     }
 }

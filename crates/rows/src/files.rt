@@ -6,7 +6,8 @@ ghost use Rattle.sqlite.specs.State.{HasCleanDisk};
 ghost use Rattle.sqlite.specs.Opening.{is_open_error};
 ghost use Rattle.sqlite.specs.declared.error.Error.TheVariants.{SqliteFailure};
 ghost use Rattle.sqlite.specs.declared.error.ErrorCode.TheVariants.{CannotOpen};
-ghost use Rattle.sqlite.specs.Files.{file_state, HoldsDatabase, IsOpened};
+ghost use Rattle.sqlite_store.specs.FileStore.{view};
+ghost use Rattle.sqlite.specs.Files.{file_state, HoldsDatabase, IsOpened, IsBlankAs};
 ghost use Rattle.rows.specs.Entries.{entry_schema, IsStore, IsPut, IsCommitted, IsServing};
 ghost use Rattle.rows.specs.Values.{canonical_text};
 
@@ -31,6 +32,10 @@ pub fn open<S: Start>(
     // If it has the table and nothing else, as `is_store` tells, it serves a store.
     ensures serving { IfOk result (λ conn. HasCleanDisk (file_state conn)
         → (file_state conn).now.schema ≡ entry_schema → IsServing (file_state conn)) }
+
+    // A new file has no checksums of its pages, as SQLite makes it.
+    ensures plain { IfOk result (λ conn. HasCleanDisk (file_state conn) → IsBlankAs false (image_at S.Start)
+        → (view conn.store).has_sums ≡ false) }
 
     // The path of a database in memory names no file, and an error is one of those of an open.
     ensures memory { path.now ≡ codes ":memory:" → result ≡ Err (SqliteFailure CannotOpen) }

@@ -3,6 +3,7 @@
 
 pub mod error;
 pub mod files;
+pub mod pages;
 mod schemas;
 mod sql;
 pub mod texts;

@@ -1,9 +1,9 @@
 //! The statements of the table: each call runs one, and says that `sqlite` ran it.
-ghost use Rattle.std.specs.Prelude.{◌∷◌, [], pos, IfOk, IfErr};
+ghost use Rattle.std.specs.Prelude.{◌∷◌, [], IfOk, IfErr};
 ghost use Rattle.sqlite.specs.Held.{state};
 ghost use Rattle.sqlite.specs.State.{HasCleanDisk, Executes, FailsToQuery, QueriesRow, Shown};
-ghost use Rattle.sqlite.specs.declared.types.Value.TheVariants.{Int, Text};
-ghost use Rattle.rows.specs.Entries.{put_text, remove_text, get_text, has_text, each_text, range_text, len_text};
+ghost use Rattle.sqlite.specs.declared.types.Value.TheVariants.{Text};
+ghost use Rattle.rows.specs.Entries.{put_text, remove_text, get_text, has_text, each_text, len_text};
 ghost use Rattle.rows.specs.Entries.{begin_text, commit_text, rollback_text};
 
 use sqlite::{Alter, Connection, Error, Row, params};
@@ -60,24 +60,6 @@ pub fn query_each<S: Alter>(conn: &mut Connection<S>) -> Result<Vec<Row>, Error>
     ensures clean { HasCleanDisk (state S.Store conn.new) → HasCleanDisk (state S.Store conn.old) }
 {
     conn.query_all("SELECT key, body FROM entry ORDER BY key", &[])
-}
-
-/// Runs the query for the first rows from a key on.
-pub fn query_range<S: Alter>(
-    conn: &mut Connection<S>,
-    from: &str,
-    limit: u32,
-) -> Result<Vec<Row>, Error>
-    ensures rows { HasCleanDisk (state S.Store conn.new) → IfOk result
-        (λ rows. Shown range_text (Text from.now ∷ Int (pos limit) ∷ []) (state S.Store conn.old) (state S.Store conn.new) rows.items) }
-    ensures failed { HasCleanDisk (state S.Store conn.new) → IfErr result
-        (FailsToQuery range_text (Text from.now ∷ Int (pos limit) ∷ []) (state S.Store conn.old) (state S.Store conn.new)) }
-    ensures clean { HasCleanDisk (state S.Store conn.new) → HasCleanDisk (state S.Store conn.old) }
-{
-    conn.query_all(
-        "SELECT key, body FROM entry WHERE key >= ?1 ORDER BY key LIMIT ?2",
-        params![from, limit],
-    )
 }
 
 /// Runs the query for the number of rows.

@@ -8,12 +8,12 @@ ghost use Rattle.sqlite.specs.declared.error.Error.TheVariants.{QueryReturnedNoR
 ghost use Rattle.sqlite.specs.declared.types.Value.TheVariants.{Text};
 ghost use Rattle.rows.specs.Entries.{get_text, entry_schema, no_schema, texts_of};
 ghost use Rattle.rows.specs.Entries.{IsStore, IsMap, IsPut, IsRemoved, Holds, HasKey, AreEntries, IsCommitted, IsUndone};
-ghost use Rattle.rows.specs.Entries.{row_count, IsPage, IsServing, IsBegun, IsBack, StaysInside, Keeps, Aborts};
+ghost use Rattle.rows.specs.Entries.{row_count, IsServing, IsBegun, IsBack, StaysInside, Keeps, Aborts};
 
 use crate::schemas::is_entry_schema;
 use crate::sql::{
     execute_begin, execute_commit, execute_put, execute_remove, execute_rollback, query_body,
-    query_each, query_key, query_len, query_range,
+    query_each, query_key, query_len,
 };
 use sqlite::{Alter, Connection, Error};
 use std::alloc::Global;
@@ -326,49 +326,6 @@ pub fn all<S: Alter>(
         listed.push((key, body))?;
     }
     Ok(listed)
-}
-
-/// Returns the first keys with their bodies from a key on, at most `limit`, in the byte order of the keys. Fails if the
-/// database or an allocation fails.
-pub fn range<S: Alter>(
-    alloc: Global,
-    conn: &mut Connection<S>,
-    from: &str,
-    limit: u32,
-) -> Result<Vec<(String, String)>, Error>
-    // They are rows of the store, none twice. A row from the key on is left out only if so many come before it.
-    ensures page { HasCleanDisk (state S.Store conn.new) → IsStore (state S.Store conn.old).now
-        → IfOk result (λ page. IsPage (state S.Store conn.old).now from.now limit (map texts_of page.items)) }
-
-    // If it succeeds, the database is as it was.
-    ensures same { HasCleanDisk (state S.Store conn.new) → (state S.Store conn.old).now.schema ≡ entry_schema
-        → OnOk result (IsUnchanged (state S.Store conn.old) (state S.Store conn.new)) }
-
-    // If the table is there and it fails, the connection is as it was, or its transaction is rolled back, or it is shut.
-    ensures aborts { HasCleanDisk (state S.Store conn.new) → (state S.Store conn.old).now.schema ≡ entry_schema
-        → OnErr result (Aborts (state S.Store conn.old) (state S.Store conn.new)) }
-
-    // A connection that serves a store goes on, and one that was shut runs no query.
-    ensures serving { HasCleanDisk (state S.Store conn.new) → IsServing (state S.Store conn.old)
-        → IsServing (state S.Store conn.new) }
-    ensures live { HasCleanDisk (state S.Store conn.new) → IsServing (state S.Store conn.old)
-        → OnOk result (IsTrue (state S.Store conn.old).is_open) }
-
-    // Outside of a transaction the rows are as they were, whatever it returns, unless the connection is shut.
-    ensures kept { HasCleanDisk (state S.Store conn.new) → IsServing (state S.Store conn.old)
-        → Keeps (state S.Store conn.old) (state S.Store conn.new) }
-    ensures clean { HasCleanDisk (state S.Store conn.new) → HasCleanDisk (state S.Store conn.old) }
-{
-    // For the clause `live` alone: the database of an open connection is well formed.
-    let _schema = conn.schema();
-    let rows = query_range(conn, from, limit)?;
-    let mut page = Vec::new(alloc);
-    for row in rows.iter() {
-        let key: String = row.get(0)?;
-        let body: String = row.get(1)?;
-        page.push((key, body))?;
-    }
-    Ok(page)
 }
 
 /// Returns the number of rows. Returns the error of the database if it fails.

@@ -2,7 +2,7 @@
 //! If no fault of the disk is known after a call (`HasCleanDisk`), none was known before it (`clean`).
 ghost use Rattle.std.specs.Prelude.{◌≡◌, ◌⊎◌, ◌↔◌, ◌∷◌, [], ℕ, List, false, IfOk, IfSome, OnOk, OnErr, Ok, Err, None, IsTrue};
 ghost use Rattle.std.specs.List.{AllZip};
-ghost use Rattle.miniserde.specs.declared.Error.TheVariants.{Invalid};
+ghost use Rattle.miniserde.specs.declared.Error.TheVariants as json;
 ghost use Rattle.miniserde.specs.Value.{IsJson};
 ghost use Rattle.miniserde.specs.Normal.{norm};
 ghost use Rattle.sqlite.specs.Held.{state};
@@ -11,7 +11,7 @@ ghost use Rattle.sqlite.specs.declared.error.Error.TheVariants.{QueryReturnedNoR
 ghost use Rattle.sqlite.specs.declared.types.Value.TheVariants.{Text};
 ghost use Rattle.rows.specs.Entries.{get_text, entry_schema, IsStore, IsPut, IsRemoved, Holds, HasKey, AreEntries};
 ghost use Rattle.rows.specs.Entries.{IsCommitted, IsUndone, IsServing, StaysInside, Keeps, Aborts};
-ghost use Rattle.rows.specs.declared.error.Error.TheVariants.{Database, Json};
+ghost use Rattle.rows.specs.declared.error.Error.TheVariants.{Database, Invalid, Memory};
 ghost use Rattle.rows.specs.Values.{canonical_text, IsReadFrom};
 
 use crate::error::Error;
@@ -24,7 +24,7 @@ use miniserde::{
 use sqlite::{Alter, Connection};
 use std::alloc::Global;
 
-/// Puts a value under a key. It replaces the value of the same key. Returns `Database` if the database fails, and `Json`
+/// Puts a value under a key. It replaces the value of the same key. Returns `Database` if the database fails, and `Memory`
 /// if an allocation fails.
 pub fn put<S: Alter, K: Serialize, V: Serialize>(
     alloc: Global,
@@ -64,8 +64,8 @@ pub fn put<S: Alter, K: Serialize, V: Serialize>(
     ensures kept { HasCleanDisk (state S.Store conn.new) → IsServing (state S.Store conn.old)
         → OnErr result (Keeps (state S.Store conn.old) (state S.Store conn.new)) }
 
-    // No error is `Json(Invalid)`.
-    ensures valid { result ≡ Err (Json Invalid) → ⊥ }
+    // No error is `Invalid`.
+    ensures valid { result ≡ Err Invalid → ⊥ }
 
     // The two texts spell the normal forms of the two trees.
     ensures spells { OnOk result (IsJson (canonical_text (K.tree key.now)) (norm (K.tree key.now))
@@ -78,7 +78,7 @@ pub fn put<S: Alter, K: Serialize, V: Serialize>(
     Ok(())
 }
 
-/// Removes the row of a key, and returns whether there was one. Returns `Database` if the database fails, and `Json` if an
+/// Removes the row of a key, and returns whether there was one. Returns `Database` if the database fails, and `Memory` if an
 /// allocation fails.
 pub fn remove<S: Alter, K: Serialize>(
     alloc: Global,
@@ -120,8 +120,8 @@ pub fn remove<S: Alter, K: Serialize>(
     ensures kept { HasCleanDisk (state S.Store conn.new) → IsServing (state S.Store conn.old)
         → OnErr result (Keeps (state S.Store conn.old) (state S.Store conn.new)) }
 
-    // No error is `Json(Invalid)`.
-    ensures valid { result ≡ Err (Json Invalid) → ⊥ }
+    // No error is `Invalid`.
+    ensures valid { result ≡ Err Invalid → ⊥ }
     ensures clean { HasCleanDisk (state S.Store conn.new) → HasCleanDisk (state S.Store conn.old) }
 {
     let key = canonical_of(alloc, key)?;
@@ -135,7 +135,7 @@ pub fn value_of<V: Stable + Lossless>(alloc: Global, text: &str) -> miniserde::R
     ensures read { IfOk result (IsReadFrom V.means V.tree V.valid text.now) }
 
     // The text is the canonical text of no value.
-    ensures invalid { result ≡ Err Invalid → (v : V) → V.valid v → IsJson text.now (norm (V.tree v)) → ⊥ }
+    ensures invalid { result ≡ Err json.Invalid → (v : V) → V.valid v → IsJson text.now (norm (V.tree v)) → ⊥ }
 {
     V::round_trips();
     means_in_normal_form::<V>();
@@ -145,8 +145,8 @@ pub fn value_of<V: Stable + Lossless>(alloc: Global, text: &str) -> miniserde::R
     Ok(value)
 }
 
-/// Returns the value of a key, or `None` if no row has the key. Returns `Database` if the database fails, and `Json` if
-/// the body means no value or an allocation fails.
+/// Returns the value of a key, or `None` if no row has the key. Returns `Database` if the database fails, `Invalid` if the
+/// body does not match the type, and `Memory` if an allocation fails.
 pub fn get<S: Alter, K: Serialize, V: Stable + Lossless>(
     alloc: Global,
     conn: &mut Connection<S>,
@@ -162,7 +162,7 @@ pub fn get<S: Alter, K: Serialize, V: Stable + Lossless>(
 
     // The key has a body that is the canonical text of no value.
     ensures invalid { HasCleanDisk (state S.Store conn.new) → (state S.Store conn.old).now.schema ≡ entry_schema
-        → result ≡ Err (Json Invalid) → (body : List ℕ)
+        → result ≡ Err Invalid → (body : List ℕ)
         × Holds (state S.Store conn.old).now (canonical_text (K.tree key.now)) body
         × ((v : V) → V.valid v → IsJson body (norm (V.tree v)) → ⊥) }
 
@@ -170,9 +170,12 @@ pub fn get<S: Alter, K: Serialize, V: Stable + Lossless>(
     ensures same { HasCleanDisk (state S.Store conn.new) → (state S.Store conn.old).now.schema ≡ entry_schema
         → OnOk result (IsUnchanged (state S.Store conn.old) (state S.Store conn.new)) }
 
-    // If a text means no value, or an allocation fails, the database is as it was too.
+    // If a text does not match the type, or an allocation fails outside of the database, the database is as it was too.
     ensures unread { HasCleanDisk (state S.Store conn.new) → (state S.Store conn.old).now.schema ≡ entry_schema
-        → IsTrue (state S.Store conn.old).is_open → (error : _) → result ≡ Err (Json error)
+        → IsTrue (state S.Store conn.old).is_open → result ≡ Err Invalid
+        → IsUnchanged (state S.Store conn.old) (state S.Store conn.new) }
+    ensures lacking { HasCleanDisk (state S.Store conn.new) → (state S.Store conn.old).now.schema ≡ entry_schema
+        → IsTrue (state S.Store conn.old).is_open → result ≡ Err Memory
         → IsUnchanged (state S.Store conn.old) (state S.Store conn.new) }
 
     // If the database fails, a row has the key, or the database fails to query.
@@ -204,7 +207,7 @@ pub fn get<S: Alter, K: Serialize, V: Stable + Lossless>(
     }
 }
 
-/// Returns whether a row has the key, and reads no body. Returns `Database` if the database fails, and `Json` if an
+/// Returns whether a row has the key, and reads no body. Returns `Database` if the database fails, and `Memory` if an
 /// allocation fails.
 pub fn has<S: Alter, K: Serialize>(
     alloc: Global,
@@ -230,8 +233,8 @@ pub fn has<S: Alter, K: Serialize>(
     ensures kept { HasCleanDisk (state S.Store conn.new) → IsServing (state S.Store conn.old)
         → Keeps (state S.Store conn.old) (state S.Store conn.new) }
 
-    // No error is `Json(Invalid)`.
-    ensures valid { result ≡ Err (Json Invalid) → ⊥ }
+    // No error is `Invalid`.
+    ensures valid { result ≡ Err Invalid → ⊥ }
     ensures clean { HasCleanDisk (state S.Store conn.new) → HasCleanDisk (state S.Store conn.old) }
 {
     let key = canonical_of(alloc, key)?;
@@ -239,7 +242,7 @@ pub fn has<S: Alter, K: Serialize>(
     Ok(found)
 }
 
-/// Puts a value under a key, and reads it back from the database. Returns `Database` if the database fails, and `Json`
+/// Puts a value under a key, and reads it back from the database. Returns `Database` if the database fails, and `Memory`
 /// if an allocation fails.
 pub fn put_and_get<S: Alter, K: Serialize, V: Stable + Lossless>(
     alloc: Global,
@@ -264,9 +267,9 @@ pub fn put_and_get<S: Alter, K: Serialize, V: Stable + Lossless>(
         → IfOk result (λ answer. IfSome answer (λ read. V.means.content read ≡ V.means.content value.now)) }
     ensures some { HasCleanDisk (state S.Store conn.new) → IsStore (state S.Store conn.old).now → result ≡ Ok None → ⊥ }
 
-    // No error is `Json(Invalid)`.
+    // No error is `Invalid`.
     ensures valid { HasCleanDisk (state S.Store conn.new) → IsStore (state S.Store conn.old).now
-        → result ≡ Err (Json Invalid) → ⊥ }
+        → result ≡ Err Invalid → ⊥ }
 
     // A connection that serves a store goes on.
     ensures serving { HasCleanDisk (state S.Store conn.new) → IsServing (state S.Store conn.old)
@@ -284,8 +287,8 @@ pub fn put_and_get<S: Alter, K: Serialize, V: Stable + Lossless>(
     get(alloc, conn, key)
 }
 
-/// Returns all keys with their values, in the byte order of the keys' texts. Returns `Database` if the
-/// database fails, and `Json` if a text means no value or an allocation fails.
+/// Returns all keys with their values, in the byte order of the keys' texts. Returns `Database` if the database fails,
+/// `Invalid` if a text does not match its type, and `Memory` if an allocation fails.
 pub fn all<S: Alter, K: Stable + Lossless, V: Stable + Lossless>(
     alloc: Global,
     conn: &mut Connection<S>,
@@ -298,7 +301,7 @@ pub fn all<S: Alter, K: Stable + Lossless, V: Stable + Lossless>(
 
     // A row has a key or a body that is the canonical text of no value.
     ensures invalid { HasCleanDisk (state S.Store conn.new) → (state S.Store conn.old).now.schema ≡ entry_schema
-        → result ≡ Err (Json Invalid) → (key body : List ℕ) × Holds (state S.Store conn.old).now key body
+        → result ≡ Err Invalid → (key body : List ℕ) × Holds (state S.Store conn.old).now key body
         × (((k : K) → K.valid k → IsJson key (norm (K.tree k)) → ⊥)
         ⊎ ((v : V) → V.valid v → IsJson body (norm (V.tree v)) → ⊥)) }
 
@@ -306,9 +309,12 @@ pub fn all<S: Alter, K: Stable + Lossless, V: Stable + Lossless>(
     ensures same { HasCleanDisk (state S.Store conn.new) → (state S.Store conn.old).now.schema ≡ entry_schema
         → OnOk result (IsUnchanged (state S.Store conn.old) (state S.Store conn.new)) }
 
-    // If a text means no value, or an allocation fails, the database is as it was too.
+    // If a text does not match the type, or an allocation fails outside of the database, the database is as it was too.
     ensures unread { HasCleanDisk (state S.Store conn.new) → (state S.Store conn.old).now.schema ≡ entry_schema
-        → IsTrue (state S.Store conn.old).is_open → (error : _) → result ≡ Err (Json error)
+        → IsTrue (state S.Store conn.old).is_open → result ≡ Err Invalid
+        → IsUnchanged (state S.Store conn.old) (state S.Store conn.new) }
+    ensures lacking { HasCleanDisk (state S.Store conn.new) → (state S.Store conn.old).now.schema ≡ entry_schema
+        → IsTrue (state S.Store conn.old).is_open → result ≡ Err Memory
         → IsUnchanged (state S.Store conn.old) (state S.Store conn.new) }
 
     // A connection that serves a store goes on, and one that was shut runs no query.

@@ -22,7 +22,9 @@ pub trait Visit {
 }
 
 /// Reads the next row, or `None` after the last. Returns the error of the database if it fails.
-fn next_texts<S: Alter>(rows: &mut Rows<'_, S>) -> Result<Option<(String, String)>, sqlite::Error>
+pub(crate) fn next_texts<S: Alter>(
+    rows: &mut Rows<'_, S>,
+) -> Result<Option<(String, String)>, sqlite::Error>
     ensures same_reference { rows.new.conn.ghost_name ≡ rows.old.conn.ghost_name }
 
     // The query gives one row more, which has these texts, or it has given all.

@@ -10,10 +10,10 @@ use Rattle.http_server.specs.declared.response.Response.{Response}
 use Rattle.http_server.specs.Exchange.{Call, Chain}
 use Rattle.store.specs.declared.conditions.Condition.{Condition}
 use Rattle.store.specs.declared.conditions.Condition.TheVariants.{Met, Failed, Cached}
-use Rattle.store.specs.Routes.{IsEntry, path_of, headers_of}
-use Rattle.store.specs.Answered.{Codec, outcome, IsStatus, condition_on, ShownBy, Shows}
+use Rattle.store.specs.Routes.{IsEntry, path_of, method_of, headers_of}
+use Rattle.store.specs.Answered.{Codec, outcome, IsStatus, condition_on, is_bare, ShownBy, Shows}
 use Rattle.store.specs.Lists.{query_of, start_of, object_text}
-use Rattle.store.specs.Maps.{Map, empty, with_text, without_key, ListsFromMap, AnsweredListMap, AnsweredAtMap, AnsweredMap}
+use Rattle.store.specs.Maps.{Map, empty, with_text, without_key, ListsFromMap, AnsweredListMap, AnsweredAtMap, AnsweredMap, AnsweredMapFor}
 use Rattle.store.specs.Last.{Changes, IsPutOf, IsRemovalOf, AreQuiet, LastIs, NoPutStands}
 
 -- ---- statuses
@@ -53,14 +53,22 @@ quiet_503 : IsSuccess 503 → ⊥
 quiet_503 (inl e) = omega arith
 quiet_503 (inr e) = omega arith
 
-by_quiet : (c : Condition) (text : List ℕ) (r : Response) → ShownBy c text r → IsSuccess r.status → ⊥
-by_quiet Met text r h = no_success 200 r h.status quiet_200
-by_quiet Cached text r h = no_success 304 r h.status quiet_304
-by_quiet Failed text r h = no_success 412 r h.status quiet_412
+quiet_421 : IsSuccess 421 → ⊥
+quiet_421 (inl e) = omega arith
+quiet_421 (inr e) = omega arith
 
-shown_quiet : (headers : Entries FieldValue) (o : Option (List ℕ)) (r : Response) → Shows headers o r → IsSuccess r.status → ⊥
-shown_quiet headers None r h = no_success 404 r h.status quiet_404
-shown_quiet headers (Some text) r h = by_quiet (condition_on headers (Some text)) text r h
+by_quiet : (bare : Bool) (c : Condition) (text : List ℕ) (r : Response) → ShownBy bare c text r → IsSuccess r.status → ⊥
+by_quiet false Met text r h = no_success 200 r h.status quiet_200
+by_quiet true Met text r h = no_success 200 r h.status quiet_200
+by_quiet false Cached text r h = no_success 304 r h.status quiet_304
+by_quiet true Cached text r h = no_success 304 r h.status quiet_304
+by_quiet false Failed text r h = no_success 412 r h.status quiet_412
+by_quiet true Failed text r h = no_success 412 r h.status quiet_412
+
+shown_quiet : (bare : Bool) (headers : Entries FieldValue) (o : Option (List ℕ)) (r : Response) → Shows bare headers o r
+    → IsSuccess r.status → ⊥
+shown_quiet bare headers None r h = no_success 404 r h.status quiet_404
+shown_quiet bare headers (Some text) r h = by_quiet bare (condition_on headers (Some text)) text r h
 
 stored_success : (b : Bool) (r : Response) → IsStatus (if b then 204 else 201) r → IsSuccess r.status
 stored_success true r h = inr h.status
@@ -116,7 +124,7 @@ module _ {V : Type 0} (of : Codec V) (key : List ℕ) where
   at_step : (m next : Map) (c : Call) (other : List ℕ) → IsEntry (path_of c.0) other
       → AnsweredAtMap of other c.0 (outcome m c.1 next) → Step m c next
   at_step m next c other entry (inl (is, (same, inl shown))) =
-      inl (same_at m next same, λ change. shown_quiet (headers_of c.0) (m other) c.1 shown change.1)
+      inl (same_at m next same, λ change. shown_quiet (is_bare (method_of c.0) (headers_of c.0)) (headers_of c.0) (m other) c.1 shown change.1)
   at_step m next c other entry (inl (is, (same, inr failed))) =
       inl (same_at m next same, λ change. no_success 503 c.1 failed.status quiet_503 change.1)
   at_step m next c other entry (inr (inl (is, inl (met, inl (text, meant, put, status))))) =
@@ -141,15 +149,18 @@ module _ {V : Type 0} (of : Codec V) (key : List ℕ) where
   at_step m next c other entry (inr (inr (inr (is, same, sent)))) =
       inl (same_at m next same, λ change. no_success 405 c.1 sent.status quiet_405 change.1)
 
-  from_step : (m next : Map) (c : Call) (start : List ℕ) (limit : ℕ)
-      → ListsFromMap (outcome m c.1 next) (headers_of c.0) start limit → Step m c next
-  from_step m next c start limit (same, inl (entries, page, shown)) =
-      inl (same_at m next same, λ change. shown_quiet (headers_of c.0) (Some (object_text entries)) c.1 shown change.1)
-  from_step m next c start limit (same, inr failed) =
+  from_step : (m next : Map) (c : Call) (bare : Bool) (start : List ℕ) (limit : ℕ)
+      → ListsFromMap (outcome m c.1 next) bare (headers_of c.0) start limit → Step m c next
+  from_step m next c bare start limit (same, inl (inl (entries, page, shown))) =
+      inl (same_at m next same, λ change. shown_quiet bare (headers_of c.0) (Some (object_text entries)) c.1 shown change.1)
+  from_step m next c bare start limit (same, inl (inr any)) =
+      inl (same_at m next same, λ change. shown_quiet bare (headers_of c.0) (Some []) c.1 (any []) change.1)
+  from_step m next c bare start limit (same, inr failed) =
       inl (same_at m next same, λ change. no_success 503 c.1 failed.status quiet_503 change.1)
 
   list_step : (m next : Map) (c : Call) → AnsweredListMap c.0 (outcome m c.1 next) → Step m c next
-  list_step m next c (inl (is, inl (limit, asks, from))) = from_step m next c (start_of (query_of c.0)) limit from
+  list_step m next c (inl (is, inl (limit, asks, from))) =
+      from_step m next c (is_bare (method_of c.0) (headers_of c.0)) (start_of (query_of c.0)) limit from
   list_step m next c (inl (is, inr (same, inl bad))) =
       inl (same_at m next same, λ change. no_success 400 c.1 bad.1.status quiet_400 change.1)
   list_step m next c (inl (is, inr (same, inr failed))) =
@@ -161,6 +172,11 @@ module _ {V : Type 0} (of : Codec V) (key : List ℕ) where
   one_step m next c (inl (other, entry, answer)) = at_step m next c other entry answer
   one_step m next c (inr (inl (is, lists))) = list_step m next c lists
   one_step m next c (inr (inr (none, no_list, same, sent))) = inl (same_at m next same, λ change. none key change.0)
+
+  step_for : (hosts : List (List ℕ)) (m next : Map) (c : Call) → AnsweredMapFor hosts of m c.0 c.1 next → Step m c next
+  step_for hosts m next c (inl (served, answer)) = one_step m next c answer
+  step_for hosts m next c (inr (other, same, sent)) =
+      inl (same_at m next same, λ change. no_success 421 c.1 sent.status quiet_421 change.1)
 
   -- ---- many calls
 
@@ -181,10 +197,11 @@ module _ {V : Type 0} (of : Codec V) (key : List ℕ) where
   joined m next c calls o (inr (inl (text, there, put))) (inl (is, all)) = inr (inl (text, is ∙ there, ([], c, calls, refl, put, all)))
   joined m next c calls o (inr (inr (none, removal))) (inl (is, all)) = inr (inr (is ∙ none, ([], c, calls, refl, removal, all)))
 
-  stands : (calls : List Call) (m after : Map) → Chain (AnsweredMap of) m calls after → Stands m calls (after key)
-  stands [] m after same = inl (same_at m after same, tt)
-  stands (c ∷ calls) m after (next, step, later) =
-      joined m next c calls (after key) (one_step m next c step) (stands calls next after later)
+  stands : (hosts : List (List ℕ)) (calls : List Call) (m after : Map) → Chain (AnsweredMapFor hosts of) m calls after
+      → Stands m calls (after key)
+  stands hosts [] m after same = inl (same_at m after same, tt)
+  stands hosts (c ∷ calls) m after (next, step, later) =
+      joined m next c calls (after key) (step_for hosts m next c step) (stands hosts calls next after later)
 
   shows : (calls : List Call) (o : Option (List ℕ)) → Stands empty calls o
       → MatchOption o (NoPutStands key calls) (λ text. LastIs (IsPutOf of key text) key calls)
@@ -199,6 +216,6 @@ module _ {V : Type 0} (of : Codec V) (key : List ℕ) where
       one_text e = cc
   shows calls (Some text) (inr (inr (is, last))) = absurd (true≢false (ap is_some is))
 
-  pub last_put_shown : (calls : List Call) (m : Map) → Chain (AnsweredMap of) empty calls m
+  pub last_put_shown : (hosts : List (List ℕ)) (calls : List Call) (m : Map) → Chain (AnsweredMapFor hosts of) empty calls m
       → MatchOption (m key) (NoPutStands key calls) (λ text. LastIs (IsPutOf of key text) key calls)
-  last_put_shown calls m chain = shows calls (m key) (stands calls empty m chain)
+  last_put_shown hosts calls m chain = shows calls (m key) (stands hosts calls empty m chain)

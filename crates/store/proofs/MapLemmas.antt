@@ -12,13 +12,13 @@ use Rattle.sqlite.specs.declared.types.Value.TheVariants.{Text}
 use Rattle.sqlite.specs.State.{State}
 use Rattle.rows.specs.Entries.{Holds, HasKey, IsPage, IsPut, IsRemoved, Keeps, key_of}
 use Rattle.store.specs.declared.conditions.Condition.TheVariants.{Met}
-use Rattle.store.specs.Routes.{headers_of}
+use Rattle.store.specs.Routes.{method_of, headers_of}
 use Rattle.store.specs.Answered.{Codec, outcome, IsTextOf, MeansNoValue, IsProblem, IsStatus, IsCurrent, condition_on, Shows, Reads}
 use Rattle.store.specs.Answered.{IfMet, PutsOver, Puts}
-use Rattle.store.specs.Answered.{RemovesOver, Removes, ListsFrom, Lists, AnsweredList, AnsweredAt, Answered}
-use Rattle.store.specs.Lists.{query_of, start_of}
+use Rattle.store.specs.Answered.{RemovesOver, Removes, ListsFrom, Lists, AnsweredList, AnsweredAt, Answered, AnsweredFor, is_bare}
+use Rattle.store.specs.Lists.{query_of, start_of, max_page_bytes}
 use Rattle.store.specs.Maps.{Map, with_text, without_key, IsPageOf, ReadsMap, PutsMap, RemovesMap, ListsFromMap, ListsMap}
-use Rattle.store.specs.Maps.{AnsweredListMap, AnsweredAtMap, AnsweredMap, SeesMap}
+use Rattle.store.specs.Maps.{AnsweredListMap, AnsweredAtMap, AnsweredMap, AnsweredMapFor, SeesMap}
 
 some_same : {a b : List ℕ} → ◌≡◌ {A = Option (List ℕ)} (Some a) (Some b) → a ≡ b
 some_same e = cc
@@ -91,10 +91,11 @@ module _ (old new : State) (m : Map) (sees : SeesMap old m) where
   current_at key (Some text) live held = some_at key text live held
 
   module _ (headers : Entries FieldValue) (key : List ℕ) (response : Response) where
-    pub reads_map : Reads (outcome old response new) headers key → Leads new (λ after. ReadsMap (outcome m response after) headers key)
-    reads_map (kept, inl (live, current, is, shown)) =
-        (m, (refl, inl (subst (λ o. Shows headers o response) (sym (current_at key current live is)) shown)), kept_sees kept)
-    reads_map (kept, inr failed) = (m, (refl, inr failed), kept_sees kept)
+    pub reads_map : (bare : Bool) → Reads (outcome old response new) bare headers key
+        → Leads new (λ after. ReadsMap (outcome m response after) bare headers key)
+    reads_map bare (kept, inl (live, current, is, shown)) =
+        (m, (refl, inl (subst (λ o. Shows bare headers o response) (sym (current_at key current live is)) shown)), kept_sees kept)
+    reads_map bare (kept, inr failed) = (m, (refl, inr failed), kept_sees kept)
 
     -- a removal of what the map has there
     abbrev At : Option (List ℕ) → Map → Type 0
@@ -120,33 +121,35 @@ module _ (old new : State) (m : Map) (sees : SeesMap old m) where
     removes_map (inr (kept, failed)) = (m, inr (refl, inr (inr failed)), kept_sees kept)
 
   -- a page of the rows is one of the map
-  page_at : (start : List ℕ) (limit : ℕ) (entries : List (List ℕ × List ℕ)) → IsTrue old.is_open → IsPage old.now start limit entries
-      → IsPageOf m start limit entries
-  page_at start limit entries live page = record {
+  page_at : (start : List ℕ) (limit max_bytes : ℕ) (entries : List (List ℕ × List ℕ)) → IsTrue old.is_open
+      → IsPage old.now start limit max_bytes entries → IsPageOf m start limit max_bytes entries
+  page_at start limit max_bytes entries live page = record {
     held = λ e has. let it = page.held e has in (it.0, (sees live e.0 e.1).0 it.1);
     rising = page.rising;
     most = page.most;
+    in_time = page.in_time;
     complete = λ key text from is. page.complete key text from ((sees live key text).1 is);
   }
 
   module _ (request : HttpRequest (List ℕ)) (response : Response) where
-    from_map : (start : List ℕ) (limit : ℕ) → ListsFrom (outcome old response new) (headers_of request) start limit
-        → Leads new (λ after. ListsFromMap (outcome m response after) (headers_of request) start limit)
-    from_map start limit (kept, inl (live, entries, page, shown)) =
-        (m, (refl, inl (entries, page_at start limit entries live page, shown)), kept_sees kept)
-    from_map start limit (kept, inr failed) = (m, (refl, inr failed), kept_sees kept)
+    from_map : (bare : Bool) (start : List ℕ) (limit : ℕ) → ListsFrom (outcome old response new) bare (headers_of request) start limit
+        → Leads new (λ after. ListsFromMap (outcome m response after) bare (headers_of request) start limit)
+    from_map bare start limit (kept, inl (live, inl (entries, page, shown))) =
+        (m, (refl, inl (inl (entries, page_at start limit max_page_bytes entries live page, shown))), kept_sees kept)
+    from_map bare start limit (kept, inl (live, inr any)) = (m, (refl, inl (inr any)), kept_sees kept)
+    from_map bare start limit (kept, inr failed) = (m, (refl, inr failed), kept_sees kept)
 
-    lists_map : Lists (outcome old response new) (headers_of request) (query_of request)
-        → Leads new (λ after. ListsMap (outcome m response after) (headers_of request) (query_of request))
-    lists_map (inl (limit, asks, from)) =
-        let it = from_map (start_of (query_of request)) limit from in
+    lists_map : (bare : Bool) → Lists (outcome old response new) bare (headers_of request) (query_of request)
+        → Leads new (λ after. ListsMap (outcome m response after) bare (headers_of request) (query_of request))
+    lists_map bare (inl (limit, asks, from)) =
+        let it = from_map bare (start_of (query_of request)) limit from in
         (it.0, inl (limit, asks, it.1), it.2)
-    lists_map (inr (kept, why)) = (m, inr (refl, why), kept_sees kept)
+    lists_map bare (inr (kept, why)) = (m, inr (refl, why), kept_sees kept)
 
     pub answered_list : AnsweredList request (outcome old response new)
         → Leads new (λ after. AnsweredListMap request (outcome m response after))
     answered_list (inl (is, lists)) =
-        let it = lists_map lists in
+        let it = lists_map (is_bare (method_of request) (headers_of request)) lists in
         (it.0, inl (is, it.1), it.2)
     answered_list (inr (other, kept, sent)) = (m, inr (other, refl, sent), kept_sees kept)
 
@@ -182,7 +185,7 @@ module _ (old new : State) (m : Map) (sees : SeesMap old m) where
         → AnsweredAt of key request (outcome old response new)
         → Leads new (λ after. AnsweredAtMap of key request (outcome m response after))
     answered_at key request response (inl (is, reads)) =
-        let it = reads_map (headers_of request) key response reads in
+        let it = reads_map (headers_of request) key response (is_bare (method_of request) (headers_of request)) reads in
         (it.0, inl (is, it.1), it.2)
     answered_at key request response (inr (inl (is, puts))) =
         let it = puts_map (headers_of request) key (body_of request) response puts in
@@ -203,3 +206,10 @@ module _ (old new : State) (m : Map) (sees : SeesMap old m) where
         (it.0, inr (inl (is, it.1)), it.2)
     answered_map request response (inr (inr (none, no_list, (kept, sent)))) =
         (m, inr (inr (none, no_list, refl, sent)), kept_sees kept)
+
+    pub answered_map_for : (hosts : List (List ℕ)) (request : HttpRequest (List ℕ)) (response : Response)
+        → AnsweredFor hosts of request (outcome old response new) → Leads new (AnsweredMapFor hosts of m request response)
+    answered_map_for hosts request response (inl (served, answer)) =
+        let it = answered_map request response answer in
+        (it.0, inl (served, it.1), it.2)
+    answered_map_for hosts request response (inr (other, kept, sent)) = (m, inr (other, refl, sent), kept_sees kept)

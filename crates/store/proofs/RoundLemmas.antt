@@ -9,6 +9,7 @@ use Rattle.sqlite.specs.State.{State, HasCleanDisk}
 use Rattle.sqlite.specs.declared.error.Error.{Error}
 use Rattle.rows.specs.Entries.{entry_schema, IsStore, IsCommitted, IsBegun, IsBack, Holds, Aborts}
 use Rattle.rows.proofs.Serving.{aborts_keeps, aborts_serving}
+use Rattle.store.specs.Hosts.{is_for_host}
 use Rattle.store.specs.Answered.{Codec, outcome, IsInside, IsLost, GoesIn}
 use Rattle.store.specs.Maps.{Map, IsMapOf, SeesMap, ServesMap, AnsweredMap}
 use Rattle.store.specs.Rounds.{IsUnderWay, IsOff, InRound, IsBetween, round_state, AnsweredInRound, SettlesRound}
@@ -106,19 +107,19 @@ called begun base s P Answer true is (inr lost) leads same = absurd (true≢fals
 called begun base s P Answer false is (inr lost) leads same = (begun, (base, inl lost, is), λ no. absurd (true≢false (sym no)))
 
 -- a call in a round that stood, whose answer is that of the map
-pub answered : {V : Type 0} (of : Codec V) (old new : State) (stood stands : Bool) (request : HttpRequest (List ℕ))
-    (response : Response) (Answer : Map → Map → Type 0) → stood ≡ true
+pub answered : {V : Type 0} (hosts : List (List ℕ)) (of : Codec V) (old new : State) (stood stands : Bool)
+    (request : HttpRequest (List ℕ)) (response : Response) (Answer : Map → Map → Type 0) → IsTrue (is_for_host hosts request) → stood ≡ true
     → (HasCleanDisk new → HasCleanDisk old × ((begun m : Map) → IsUnderWay begun old m → (after : Map)
     × InRound begun new stands after × (IsTrue stands → Answer m after)))
     → ((m after : Map) → Answer m after → AnsweredMap of m request response after)
-    → AnsweredInRound of request (outcome (round_state old stood) response (round_state new stands))
-answered of old new stood stands request response Answer stood_is call leads =
-    subst (λ v. AnsweredInRound of request (outcome (round_state old v) response (round_state new stands))) (sym stood_is) (λ clean.
+    → AnsweredInRound hosts of request (outcome (round_state old stood) response (round_state new stands))
+answered hosts of old new stood stands request response Answer served stood_is call leads =
+    subst (λ v. AnsweredInRound hosts of request (outcome (round_state old v) response (round_state new stands))) (sym stood_is) (λ clean.
     let it = call clean in (
       it.0,
       λ begun m way.
           let one = it.1 begun m way in
-          (one.0, one.1, λ yes. (refl, leads m one.0 (one.2 yes))),
+          (one.0, one.1, λ yes. (refl, inl (served, leads m one.0 (one.2 yes)))),
     ))
 
 -- what the call that commits a round says

@@ -1,14 +1,16 @@
 -- The exits of a call on one entry: what each of them makes of the rows, by what the calls of `rows` say.
-use Rattle.std.proofs.Common.{◌≡◌, ◌⊎◌, inl, inr, ℕ, List, Option, Some, None, Result, Ok, Err, IfOk, OnOk, IsTrue, refl, sym, subst, ◌∙◌}
+use Rattle.std.proofs.Common.{◌≡◌, ◌⊎◌, inl, inr, ℕ, List, Bool, true, Option, Some, None, Result, Ok, Err, IfOk, OnOk, IsTrue, refl, sym, subst, ◌∙◌}
 use Rattle.http_header.specs.FieldValue.{FieldValue}
 use Rattle.http_header.specs.HeaderMap.{Entries}
 use Rattle.http_server.specs.declared.response.Response.{Response}
 use Rattle.sqlite.specs.Effect.{Database}
 use Rattle.sqlite.specs.State.{State, HasCleanDisk, IsUnchanged, IsRolledBack}
 use Rattle.rows.specs.Entries.{entry_schema, IsStore, IsPage, IsPut, IsRemoved, IsServing, StaysInside, Keeps, Aborts}
-use Rattle.store.specs.Lists.{object_text}
-use Rattle.store.specs.Answered.{Codec, Outcome, outcome, IsTextOf, IsStatus, IsCurrent, condition_on, Shows, Reads}
-use Rattle.store.specs.Answered.{PutsAs, PutsValue, IfMet, PutsOver, Puts, ListsFrom}
+use Rattle.store.specs.declared.conditions.Condition.{Condition}
+use Rattle.store.specs.Conditions.{condition as condition_of}
+use Rattle.store.specs.Lists.{max_page_bytes, object_text}
+use Rattle.store.specs.Answered.{Codec, Outcome, outcome, entity_tag, IsTextOf, IsStatus, IsCurrent, condition_on, ShownBy, Shows}
+use Rattle.store.specs.Answered.{Reads, PutsAs, PutsValue, IfMet, PutsOver, Puts, ShowsAny, ListsFrom}
 use Rattle.store.specs.Answered.{TakesRow, RemovesOver, Removes, IsInside, IsLost, IsReady, GoesIn, Goes}
 
 pub keeps_self : (s : State) → Keeps s s
@@ -172,29 +174,56 @@ module _ (a b : State) where
           inl (still, (s.is_open, on.is_open, change))
 
   -- what the key has was shown, or could not be
-  pub read_found : (headers : Entries FieldValue) (key : List ℕ) (current : Option (List ℕ)) (response : Response)
-      → Stays a b (Found (IsCurrent a.now key current)) → Shows headers current response ⊎ IsStatus 503 response
-      → Goes a b (Reads (outcome a response b) headers key)
-  read_found headers key current response query shown =
-      then a b b _ (key ≡ key) (Reads (outcome a response b) headers key) query (stays b (key ≡ key) refl) (λ it _. by it shown)
+  pub read_found : (bare : Bool) (headers : Entries FieldValue) (key : List ℕ) (current : Option (List ℕ)) (response : Response)
+      → Stays a b (Found (IsCurrent a.now key current)) → Shows bare headers current response ⊎ IsStatus 503 response
+      → Goes a b (Reads (outcome a response b) bare headers key)
+  read_found bare headers key current response query shown =
+      then a b b _ (key ≡ key) (Reads (outcome a response b) bare headers key) query (stays b (key ≡ key) refl) (λ it _. by it shown)
     where
-      by : Found (IsCurrent a.now key current) → Shows headers current response ⊎ IsStatus 503 response
-          → Reads (outcome a response b) headers key
+      by : Found (IsCurrent a.now key current) → Shows bare headers current response ⊎ IsStatus 503 response
+          → Reads (outcome a response b) bare headers key
       by (live, kept, is) (inl shown) = (kept, inl (live, current, is, shown))
       by (live, kept, is) (inr status) = (kept, inr status)
 
   -- a page was shown, or could not be
-  pub page_found : (headers : Entries FieldValue) (start : List ℕ) (limit : ℕ) (entries : List (List ℕ × List ℕ)) (response : Response)
-      → Stays a b (Found (IsPage a.now start limit entries)) → Shows headers (Some (object_text entries)) response ⊎ IsStatus 503 response
-      → Goes a b (ListsFrom (outcome a response b) headers start limit)
-  page_found headers start limit entries response query shown =
-      then a b b _ (start ≡ start) (ListsFrom (outcome a response b) headers start limit) query (stays b (start ≡ start) refl)
+  pub page_found : (bare : Bool) (headers : Entries FieldValue) (start : List ℕ) (limit : ℕ) (entries : List (List ℕ × List ℕ))
+      (response : Response) → Stays a b (Found (IsPage a.now start limit max_page_bytes entries))
+      → Shows bare headers (Some (object_text entries)) response ⊎ IsStatus 503 response
+      → Goes a b (ListsFrom (outcome a response b) bare headers start limit)
+  page_found bare headers start limit entries response query shown =
+      then a b b _ (start ≡ start) (ListsFrom (outcome a response b) bare headers start limit) query (stays b (start ≡ start) refl)
       (λ it _. by it shown)
     where
-      by : Found (IsPage a.now start limit entries) → Shows headers (Some (object_text entries)) response ⊎ IsStatus 503 response
-          → ListsFrom (outcome a response b) headers start limit
-      by (live, kept, is) (inl shown) = (kept, inl (live, entries, is, shown))
+      by : Found (IsPage a.now start limit max_page_bytes entries) → Shows bare headers (Some (object_text entries)) response ⊎ IsStatus 503 response
+          → ListsFrom (outcome a response b) bare headers start limit
+      by (live, kept, is) (inl shown) = (kept, inl (live, inl (entries, is, shown)))
       by (live, kept, is) (inr status) = (kept, inr status)
+
+  -- the database could be read, and the response needs no page
+  pub any_found : (condition : Condition) (response : Response) → Stays a b (Found (Unit {0}))
+      → ((text : List ℕ) → ShownBy true condition text response) ⊎ IsStatus 503 response
+      → Goes a b (ShowsAny (outcome a response b) condition)
+  any_found condition response query shown =
+      then a b b _ (a ≡ a) (ShowsAny (outcome a response b) condition) query (stays b (a ≡ a) refl) (λ it _. by it shown)
+    where
+      by : Found (Unit {0}) → ((text : List ℕ) → ShownBy true condition text response) ⊎ IsStatus 503 response
+          → ShowsAny (outcome a response b) condition
+      by (live, kept, is) (inl shown) = (kept, inl (live, shown))
+      by (live, kept, is) (inr status) = (kept, inr status)
+
+  -- which is right for any page, if the condition is that of the request whatever the page is
+  pub lists_any : (headers : Entries FieldValue) (start : List ℕ) (limit : ℕ) (condition : Condition) (response : Response)
+      → ((tag : List ℕ) → condition_of headers tag ≡ condition) → Goes a b (ShowsAny (outcome a response b) condition)
+      → Goes a b (ListsFrom (outcome a response b) true headers start limit)
+  lists_any headers start limit condition response known shown =
+      goes_by a b (ShowsAny (outcome a response b) condition) (ListsFrom (outcome a response b) true headers start limit) by shown
+    where
+      by : ShowsAny (outcome a response b) condition → ListsFrom (outcome a response b) true headers start limit
+      by (kept, inl (live, shown)) = (
+        kept,
+        inl (live, inr (λ text. subst (λ c. ShownBy true c text response) (sym (known (entity_tag text))) (shown text))),
+      )
+      by (kept, inr status) = (kept, inr status)
 
   -- the query was followed by another call, from b to c
   module _ (c : State) where

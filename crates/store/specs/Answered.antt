@@ -1,5 +1,5 @@
 -- What the store answers to a request, and what becomes of its rows.
-use Rattle.std.specs.Prelude.{◌≡◌, ◌≢◌, ◌⊎◌, ℕ, List, [], ◌∷◌, ◌++◌, true, false, Option}
+use Rattle.std.specs.Prelude.{◌≡◌, ◌≢◌, ◌⊎◌, ◌||◌, ℕ, List, [], ◌∷◌, ◌++◌, Bool, true, false, bytes_eq, Option}
 use Rattle.std.specs.Prelude.{Some, None, is_some, option_map, if◌then◌else◌, codes, IsTrue}
 use Rattle.sha2.specs.Sha256.{sha256}
 use Rattle.hex.specs.Hex.{encode_lower}
@@ -21,10 +21,11 @@ use Rattle.rows.specs.Values.{canonical_text}
 use Rattle.store.specs.declared.conditions.Condition.{Condition}
 use Rattle.store.specs.declared.conditions.Condition.TheVariants.{Met, Failed, Cached}
 use Rattle.store.specs.declared.reason.Reason.{Reason}
-use Rattle.store.specs.Conditions.{condition_at}
+use Rattle.store.specs.Conditions.{condition_at, wants_none}
+use Rattle.store.specs.Hosts.{is_for_host}
 use Rattle.store.specs.Reasons.{IsReason, problem, problem_text}
-use Rattle.store.specs.Lists.{IsList, AsksFor, query_of, start_of, object_text}
-use Rattle.store.specs.Routes.{IsEntry, IsRead, IsOther, path_of, method_of, headers_of, put_method, delete_method}
+use Rattle.store.specs.Lists.{IsList, AsksFor, query_of, start_of, max_page_bytes, object_text}
+use Rattle.store.specs.Routes.{IsEntry, IsRead, IsOther, path_of, method_of, headers_of, head_method, put_method, delete_method}
 
 -- the field that says that a body is JSON
 abbrev pub json_field : Header
@@ -58,9 +59,9 @@ allow_field = (codes "allow", codes "GET, HEAD, PUT, DELETE")
 abbrev pub allow_list_field : Header
 allow_list_field = (codes "allow", codes "GET, HEAD")
 
--- the details of the problem that a limit is none
+-- the details of the problem that a limit is not valid
 abbrev pub limit_problem : List ℕ
-limit_problem = compact (problem (codes "the limit is no number from 1 to 1000") None)
+limit_problem = compact (problem (codes "`limit` must be a number from 1 to 1000") None)
 
 -- how the values of a type are read and written: which trees mean which values, and the tree of a value
 pub record Codec (V : Type 0) : Type 1 where
@@ -102,17 +103,24 @@ IsStatus code response = IsResponse code [] [] response
 abbrev pub condition_on : Entries FieldValue → Option (List ℕ) → Condition
 condition_on headers current = condition_at headers (option_map entity_tag current)
 
--- The response to a read of a text: 200 with the text, 304 with its tag if `If-None-Match` lists that or is `*`, or 412 if
--- `If-Match` does not hold (RFC 9110, sections 13.1.1, 13.1.2 and 15.4.5).
-abbrev pub ShownBy : Condition → List ℕ → Response → Type 0
-ShownBy Met text response = IsResponse 200 (shown_fields text) text response
-ShownBy Cached text response = IsResponse 304 (etag_field (entity_tag text) ∷ []) [] response
-ShownBy Failed text response = IsStatus 412 response
+-- The response has no body and no tag: the method is HEAD, or `If-None-Match` is `*`, which names no tag.
+abbrev pub is_bare : List ℕ → Entries FieldValue → Bool
+is_bare method headers = bytes_eq method head_method || wants_none headers
+
+-- The response to a read of a text: 200 with the text, 304 with its tag if `If-None-Match` lists that, or 412 if `If-Match` does
+-- not hold (RFC 9110, sections 13.1.1, 13.1.2 and 15.4.5). A bare one has neither the text nor its tag.
+abbrev pub ShownBy : Bool → Condition → List ℕ → Response → Type 0
+ShownBy false Met text response = IsResponse 200 (shown_fields text) text response
+ShownBy true Met text response = IsResponse 200 (json_field ∷ []) [] response
+ShownBy false Cached text response = IsResponse 304 (etag_field (entity_tag text) ∷ []) [] response
+ShownBy true Cached text response = IsStatus 304 response
+ShownBy false Failed text response = IsStatus 412 response
+ShownBy true Failed text response = IsStatus 412 response
 
 -- the response to a read of a key. 404: it has no text, whatever the conditions are (section 13.2.1).
-abbrev pub Shows : Entries FieldValue → Option (List ℕ) → Response → Type 0
-Shows headers None response = IsStatus 404 response
-Shows headers (Some text) response = ShownBy (condition_on headers (Some text)) text response
+abbrev pub Shows : Bool → Entries FieldValue → Option (List ℕ) → Response → Type 0
+Shows bare headers None response = IsStatus 404 response
+Shows bare headers (Some text) response = ShownBy bare (condition_on headers (Some text)) text response
 
 -- the body of the key's row, if there is one
 abbrev pub IsCurrent : Database → List ℕ → Option (List ℕ) → Type 0
@@ -124,10 +132,10 @@ abbrev pub LeavesAt : ℕ → Outcome State → Type 0
 LeavesAt code o = Keeps o.old o.new × IsStatus code o.response
 
 -- the response to a read. 503: the database failed, or an allocation. Reads change no row.
-abbrev pub Reads : Outcome State → Entries FieldValue → List ℕ → Type 0
-Reads o headers key =
+abbrev pub Reads : Outcome State → Bool → Entries FieldValue → List ℕ → Type 0
+Reads o bare headers key =
     Keeps o.old o.new × ((IsTrue o.old.is_open × (current : Option (List ℕ)) × IsCurrent o.old.now key current
-    × Shows headers current o.response)
+    × Shows bare headers current o.response)
     ⊎ IsStatus 503 o.response)
 
 -- What becomes of a text that is put under a key, with this status if it is. The connection is then open, so what it serves
@@ -183,37 +191,49 @@ Removes o headers key =
 -- the response to a request for an entry, by its method
 abbrev pub AnsweredAt : {V : Type 0} → Codec V → List ℕ → HttpRequest (List ℕ) → Outcome State → Type 0
 AnsweredAt of key request o =
-    (IsRead (method_of request) × Reads o (headers_of request) key)
+    (IsRead (method_of request) × Reads o (is_bare (method_of request) (headers_of request)) (headers_of request) key)
     ⊎ (((method_of request ≡ put_method) × Puts of o (headers_of request) key (body_of request))
     ⊎ (((method_of request ≡ delete_method) × Removes o (headers_of request) key)
     ⊎ (IsOther (method_of request) × Keeps o.old o.new × IsResponse 405 (allow_field ∷ []) [] o.response)))
 
--- The first entries from a key on, at most so many, are shown as one object. 503: the database failed, or an allocation.
-abbrev pub ListsFrom : Outcome State → Entries FieldValue → List ℕ → ℕ → Type 0
-ListsFrom o headers start limit =
-    Keeps o.old o.new × ((IsTrue o.old.is_open × (entries : List (List ℕ × List ℕ)) × IsPage o.old.now start limit entries
-    × Shows headers (Some (object_text entries)) o.response)
+-- The response is the bare one of this condition, for any text. 503: the database failed, or an allocation.
+abbrev pub ShowsAny : Outcome State → Condition → Type 0
+ShowsAny o condition =
+    Keeps o.old o.new × ((IsTrue o.old.is_open × ((text : List ℕ) → ShownBy true condition text o.response)) ⊎ IsStatus 503 o.response)
+
+-- A page of the entries from a key on is shown as one object, or the response is right for any page. 503: the database failed, or
+-- an allocation.
+abbrev pub ListsFrom : Outcome State → Bool → Entries FieldValue → List ℕ → ℕ → Type 0
+ListsFrom o bare headers start limit =
+    Keeps o.old o.new × ((IsTrue o.old.is_open × (((entries : List (List ℕ × List ℕ))
+    × IsPage o.old.now start limit max_page_bytes entries × Shows bare headers (Some (object_text entries)) o.response)
+    ⊎ ((text : List ℕ) → Shows bare headers (Some text) o.response)))
     ⊎ IsStatus 503 o.response)
 
--- the response to a query for entries. 400: the query asks for no limit that there is.
-abbrev pub Lists : Outcome State → Entries FieldValue → List ℕ → Type 0
-Lists o headers query =
-    ((limit : ℕ) × AsksFor query limit × ListsFrom o headers (start_of query) limit)
+-- the response to a query for entries. 400: the query gives a limit that is not a number from 1 to 1000.
+abbrev pub Lists : Outcome State → Bool → Entries FieldValue → List ℕ → Type 0
+Lists o bare headers query =
+    ((limit : ℕ) × AsksFor query limit × ListsFrom o bare headers (start_of query) limit)
     ⊎ (Keeps o.old o.new × ((((limit : ℕ) → AsksFor query limit → ⊥) × IsResponse 400 (problem_field ∷ []) limit_problem o.response)
     ⊎ IsStatus 503 o.response))
 
 -- the response to a request for the list of entries, by its method
 abbrev pub AnsweredList : HttpRequest (List ℕ) → Outcome State → Type 0
 AnsweredList request o =
-    (IsRead (method_of request) × Lists o (headers_of request) (query_of request))
+    (IsRead (method_of request) × Lists o (is_bare (method_of request) (headers_of request)) (headers_of request) (query_of request))
     ⊎ ((IsRead (method_of request) → ⊥) × Keeps o.old o.new × IsResponse 405 (allow_list_field ∷ []) [] o.response)
 
--- what a request leads to
+-- what a request for a host that is served leads to
 abbrev pub Answered : {V : Type 0} → Codec V → HttpRequest (List ℕ) → Outcome State → Type 0
 Answered of request o =
     ((key : List ℕ) × IsEntry (path_of request) key × AnsweredAt of key request o)
     ⊎ ((IsList (path_of request) × AnsweredList request o)
     ⊎ (((key : List ℕ) → IsEntry (path_of request) key → ⊥) × (IsList (path_of request) → ⊥) × LeavesAt 404 o))
+
+-- What a request leads to. 421: it is for no host that is served (RFC 9110, section 15.5.20), and nothing changes.
+abbrev pub AnsweredFor : {V : Type 0} → List (List ℕ) → Codec V → HttpRequest (List ℕ) → Outcome State → Type 0
+AnsweredFor hosts of request o =
+    (IsTrue (is_for_host hosts request) × Answered of request o) ⊎ ((is_for_host hosts request ≡ false) × LeavesAt 421 o)
 
 -- the connection is inside of a transaction, where it sees a store, and its last commit is this store
 pub record IsInside (base : Database) (s : State) : Type 0 where

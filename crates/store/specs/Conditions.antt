@@ -30,6 +30,10 @@ lists value tag weak = lists_below value tag weak (length value)
 abbrev pub is_met : List ℕ → Bool → List ℕ → Bool
 is_met tag weak value = bytes_eq value (codes "*") || lists value tag weak
 
+-- one of the values is `*`
+abbrev pub has_any : List (List ℕ) → Bool
+has_any values = list_any (λ value. bytes_eq value (codes "*")) values
+
 -- one of the values is `*`, or lists the tag
 abbrev pub is_any_met : List ℕ → Bool → List (List ℕ) → Bool
 is_any_met tag weak values = list_any (is_met tag weak) values
@@ -37,6 +41,10 @@ is_any_met tag weak values = list_any (is_met tag weak) values
 -- the request has the field `If-Match`
 abbrev pub has_if_match : Entries FieldValue → Bool
 has_if_match headers = is_some (get headers (codes "if-match"))
+
+-- `If-None-Match` is `*`: the request asks for no entry that there is
+abbrev pub wants_none : Entries FieldValue → Bool
+wants_none headers = has_any (values_of headers (codes "if-none-match"))
 
 -- What the conditions say of an entry of this tag. `If-Match` compares strongly and goes first (sections 13.1.1 and 13.2.2),
 -- `If-None-Match` compares weakly (section 13.1.2).

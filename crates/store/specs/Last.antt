@@ -5,7 +5,7 @@ use Rattle.http.specs.Request.{body_of}
 use Rattle.http_server.specs.Exchange.{Call, Chain}
 use Rattle.store.specs.Routes.{IsEntry, path_of, method_of, put_method, delete_method}
 use Rattle.store.specs.Answered.{Codec, IsTextOf}
-use Rattle.store.specs.Maps.{Map, empty, AnsweredMap}
+use Rattle.store.specs.Maps.{Map, empty, AnsweredMapFor}
 
 -- a put or a removal of the key that was answered by success
 abbrev pub Changes : List ℕ → Call → Type 0
@@ -36,5 +36,5 @@ NoPutStands key calls = AreQuiet key calls ⊎ LastIs (IsRemovalOf key) key call
 -- After calls that begin with no entry, the text of a key is that of the value that was last put, and there is none only
 -- if no put stands.
 abbrev pub LastPutIsShown : {V : Type 0} → Codec V → Type 0
-LastPutIsShown of = (calls : List Call) (m : Map) (key : List ℕ) → Chain (AnsweredMap of) empty calls m
+LastPutIsShown of = (hosts : List (List ℕ)) (calls : List Call) (m : Map) (key : List ℕ) → Chain (AnsweredMapFor hosts of) empty calls m
     → MatchOption (m key) (NoPutStands key calls) (λ text. LastIs (IsPutOf of key text) key calls)

@@ -2,6 +2,7 @@ pub mod Routes
 pub mod Conditions
 pub mod Reasons
 pub mod Lists
+pub mod Hosts
 pub mod Answered
 pub mod Maps
 pub mod Streams

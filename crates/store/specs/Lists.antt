@@ -40,7 +40,11 @@ IsLimit None limit = limit ≡ 100
 IsLimit (Some text) limit =
     IsNumeral 10 (without_leading_plus text) × (limit ≡ digits_value 10 (without_leading_plus text)) × (1 ≤ limit) × (limit ≤ 1000)
 
--- the query asks for at most so many entries
+-- the keys and texts of a page have fewer bytes than this before its last entry
+abbrev pub max_page_bytes : ℕ
+max_page_bytes = 1048576
+
+-- the query asks for at most this many entries
 abbrev pub AsksFor : List ℕ → ℕ → Type 0
 AsksFor query limit = IsLimit (parameter (codes "limit") query) limit
 

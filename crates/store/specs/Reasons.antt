@@ -32,7 +32,7 @@ field_of (name ∷ names) = Some (path_text (name ∷ names))
 
 -- the sentence of a wrong field, by the text of its path
 abbrev pub field_detail : Option (List ℕ) → List ℕ
-field_detail None = codes "the body is no object"
+field_detail None = codes "the body is not an object"
 field_detail (Some field) = codes "the field " ++ field ++ codes " is wrong"
 
 -- the member of a field, if there is one
@@ -48,9 +48,9 @@ problem detail field =
 
 -- the problem details of a reason
 abbrev pub problem_of : Reason → Tree
-problem_of NoJson = problem (codes "the body is no JSON") None
+problem_of NoJson = problem (codes "the body is not valid JSON") None
 problem_of (Field path) = problem (field_detail (field_of (path_names path))) (field_of (path_names path))
-problem_of NoValue = problem (codes "the body means no value") None
+problem_of NoValue = problem (codes "the body does not match the expected type") None
 
 -- the text of the problem details of a reason
 abbrev pub problem_text : Reason → List ℕ

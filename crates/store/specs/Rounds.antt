@@ -5,7 +5,7 @@ use Rattle.http_server.specs.declared.response.Response.{Response}
 use Rattle.sqlite.specs.Effect.{Database}
 use Rattle.sqlite.specs.State.{State, HasCleanDisk}
 use Rattle.store.specs.Answered.{Codec, Outcome, IsInside, IsLost}
-use Rattle.store.specs.Maps.{Map, AnsweredMap, IsMapOf, SeesMap, ServesMap}
+use Rattle.store.specs.Maps.{Map, AnsweredMapFor, IsMapOf, SeesMap, ServesMap}
 
 -- A round that began at the first map and has come to the second: nothing was put yet, or the connection is inside of a
 -- transaction.
@@ -38,11 +38,11 @@ abbrev pub round_state : State → Bool → RoundState
 round_state connection stands = record { connection = connection; stands = stands }
 
 -- The response to a request, if the round still stands afterwards, is that of the map to which the round has come.
-abbrev pub AnsweredInRound : {V : Type 0} → Codec V → HttpRequest (List ℕ) → Outcome RoundState → Type 0
-AnsweredInRound of request o = HasCleanDisk o.new.connection → HasCleanDisk o.old.connection
+abbrev pub AnsweredInRound : {V : Type 0} → List (List ℕ) → Codec V → HttpRequest (List ℕ) → Outcome RoundState → Type 0
+AnsweredInRound hosts of request o = HasCleanDisk o.new.connection → HasCleanDisk o.old.connection
     × ((begun m : Map) → InRound begun o.old.connection o.old.stands m
     → (after : Map) × InRound begun o.new.connection o.new.stands after
-    × (IsTrue o.new.stands → IsTrue o.old.stands × AnsweredMap of m request o.response after))
+    × (IsTrue o.new.stands → IsTrue o.old.stands × AnsweredMapFor hosts of m request o.response after))
 
 -- The round is settled. If its answers stand, the map to which it has come is committed, on a connection that is open if the
 -- round changed the map, and else the map is the one from before the round.
@@ -53,8 +53,8 @@ SettlesRound old stood kept new stands = HasCleanDisk new → HasCleanDisk old
     × (IsTrue kept → IsTrue stood × IsTrue stands × (IsTrue new.is_open ⊎ (m ≡ begun))))
 
 -- how a request is answered, if the round is committed
-abbrev pub AnsweredIf : {V : Type 0} → Codec V → Bool → (Map → HttpRequest (List ℕ) → Response → Map → Type 0)
-AnsweredIf of kept m request response after = IsTrue kept → AnsweredMap of m request response after
+abbrev pub AnsweredIf : {V : Type 0} → List (List ℕ) → Codec V → Bool → (Map → HttpRequest (List ℕ) → Response → Map → Type 0)
+AnsweredIf hosts of kept m request response after = IsTrue kept → AnsweredMapFor hosts of m request response after
 
 -- the map after a round is the one to which its calls lead, if it is committed, and else the one from before
 abbrev pub LeavesMap : Map → Map → Bool → Map → Type 0

@@ -1,5 +1,5 @@
 //! The conditions of a request on its entry (RFC 9110, section 13).
-ghost use Rattle.std.specs.Prelude.{◌≡◌, ◌<◌, length, not};
+ghost use Rattle.std.specs.Prelude.{◌≡◌, ◌<◌, ℕ, List, length, not, IfSome};
 ghost use Rattle.store.specs.Conditions as spec;
 ghost use Rattle.store.specs.Conditions.{values_of};
 
@@ -50,6 +50,19 @@ fn is_met(value: &[u8], tag: &[u8], weak: bool) -> bool
     lists(value, tag, weak)
 }
 
+// Whether a field has the value `*`.
+fn has_any(headers: &HeaderMap, name: HeaderName) -> bool
+    ensures { result ≡ spec.has_any (values_of headers.now name) }
+{
+    let mut found = false;
+    for value in headers.get_all(name) {
+        if value.as_bytes() == b"*".as_slice() {
+            found = true;
+        }
+    }
+    found
+}
+
 // Whether a field has a value that is `*`, or lists a tag.
 fn is_any_met(headers: &HeaderMap, name: HeaderName, tag: &[u8], weak: bool) -> bool
     ensures { result ≡ spec.is_any_met tag.now weak (values_of headers.now name) }
@@ -68,6 +81,31 @@ fn has_if_match(headers: &HeaderMap) -> bool
     ensures { result ≡ spec.has_if_match headers.now }
 {
     headers.get(header::IF_MATCH).is_some()
+}
+
+/// Returns whether `If-None-Match` is `*`: the request asks for no entry that there is.
+pub fn wants_none(headers: &HeaderMap) -> bool
+    ensures { result ≡ spec.wants_none headers.now }
+{
+    has_any(headers, header::IF_NONE_MATCH)
+}
+
+/// Returns what the conditions of a request say of an entry, or `None` if that depends on the entry's tag.
+pub fn judge_any(headers: &HeaderMap) -> Option<Condition>
+    ensures { IfSome result (λ known. (tag : List ℕ) → spec.condition headers.now tag ≡ known) }
+{
+    if has_if_match(headers) {
+        if !has_any(headers, header::IF_MATCH) {
+            return None;
+        }
+    }
+    if wants_none(headers) {
+        return Some(Condition::Cached);
+    }
+    if headers.get(header::IF_NONE_MATCH).is_some() {
+        return None;
+    }
+    Some(Condition::Met)
 }
 
 /// Returns whether the conditions of a request hold for a key with no entry, for which `If-None-Match` always does.

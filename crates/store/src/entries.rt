@@ -1,18 +1,18 @@
 //! What a store does with one entry, and its response.
-ghost use Rattle.std.specs.Prelude.{◌≡◌, ◌⊎◌, [], ◌∷◌, IfOk, OnOk, Err, Some, None, string_bytes};
+ghost use Rattle.std.specs.Prelude.{◌≡◌, ◌⊎◌, [], ◌∷◌, ℕ, List, true, false, IfOk, OnOk, IfSome, Err, Some, None, string_bytes};
 ghost use Rattle.http_server.specs.Response.{IsBlank, IsResponse};
 ghost use Rattle.miniserde.specs.declared.Error.TheVariants.{Invalid};
 ghost use Rattle.sqlite.specs.Held.{state};
-ghost use Rattle.store.specs.Answered.{entity_tag, shown_fields, etag_field, allow_field, problem_field, condition_on};
-ghost use Rattle.store.specs.Answered.{IsTextOf, MeansNoValue, IsProblem, Shows, IsStatus};
+ghost use Rattle.store.specs.Answered.{entity_tag, json_field, shown_fields, etag_field, allow_field, problem_field, condition_on};
+ghost use Rattle.store.specs.Answered.{is_bare, IsTextOf, MeansNoValue, IsProblem, ShownBy, Shows, IsStatus};
 ghost use Rattle.store.specs.Answered.{codec, outcome, IfMet, Reads, PutsAs, PutsValue, PutsOver, Puts};
 ghost use Rattle.store.specs.Answered.{TakesRow, RemovesOver, Removes, Goes};
 
-use crate::conditions::{Condition, allows_new, judge};
+use crate::conditions::{Condition, allows_new, judge, judge_any, wants_none};
 use crate::explain::Explain;
 use crate::reason::problem_text;
 use bytes::BufMut;
-use http::{HeaderMap, HeaderValue, StatusCode, header};
+use http::{HeaderMap, HeaderValue, Method, StatusCode, header};
 use http_header::HeaderValueError;
 use http_server::Response;
 use miniserde::json::{canonical_of, from_slice};
@@ -35,12 +35,22 @@ fn entity_tag(alloc: Global, text: &str) -> Result<HeaderValue, HeaderValueError
     HeaderValue::from_string(tag)
 }
 
-// Returns what the conditions of a request say of an entry of this text.
+// Returns what the conditions of a request say of an entry of this text. Calculates its tag only if they depend on it.
 fn judged(alloc: Global, headers: &HeaderMap, text: &str) -> Result<Condition, HeaderValueError>
     ensures { IfOk result (λ c. c ≡ condition_on headers.now (Some text.now)) }
 {
+    if let Some(condition) = judge_any(headers) {
+        return Ok(condition);
+    }
     let tag = entity_tag(alloc, text)?;
     Ok(judge(headers, tag.as_bytes()))
+}
+
+/// Returns whether the response to a read has no body and no tag: the method is HEAD, or `If-None-Match` is `*`.
+pub fn is_bare(method: &Method, headers: &HeaderMap) -> bool
+    ensures { result ≡ is_bare method.now headers.now }
+{
+    method.as_str() == "HEAD" || wants_none(headers)
 }
 
 // Fills the response whose body is a JSON text of this tag.
@@ -66,15 +76,37 @@ fn not_modified(tag: HeaderValue, response: &mut Response) -> Result<(), AllocEr
     Ok(())
 }
 
-// Fills the response to a read of a text, as the conditions of the request say.
-fn fill(
+// Fills the response that says that a text is JSON, without the text or its tag.
+fn json_head(response: &mut Response) -> Result<(), AllocError>
+    requires { IsBlank response.old }
+    ensures { OnOk result (IsResponse 200 (json_field ∷ []) [] response.new) }
+{
+    let value = HeaderValue::from_static("application/json");
+    response.add_header(header::CONTENT_TYPE, value)
+}
+
+// Fills the response to a read that shows no text and no tag, as the conditions of the request say.
+fn fill_bare(condition: Condition, response: &mut Response) -> Result<(), AllocError>
+    requires { IsBlank response.old }
+    ensures { OnOk result ((text : List ℕ) → ShownBy true condition text response.new) }
+{
+    match condition {
+        Condition::Met => json_head(response)?,
+        Condition::Cached => response.status = StatusCode::NOT_MODIFIED,
+        Condition::Failed => response.status = StatusCode::PRECONDITION_FAILED,
+    }
+    Ok(())
+}
+
+// Fills the response to a read of a text with the text and its tag, as the conditions of the request say.
+fn fill_whole(
     alloc: Global,
     headers: &HeaderMap,
     text: &str,
     response: &mut Response,
 ) -> Result<(), HeaderValueError>
     requires { IsBlank response.old }
-    ensures { OnOk result (Shows headers.now (Some text.now) response.new) }
+    ensures { OnOk result (Shows false headers.now (Some text.now) response.new) }
 {
     let tag = entity_tag(alloc, text)?;
     match judge(headers, tag.as_bytes()) {
@@ -82,6 +114,25 @@ fn fill(
         Condition::Cached => not_modified(tag, response)?,
         Condition::Failed => response.status = StatusCode::PRECONDITION_FAILED,
     }
+    Ok(())
+}
+
+// Fills the response to a read of a text, as the conditions of the request say.
+fn fill(
+    alloc: Global,
+    is_bare: bool,
+    headers: &HeaderMap,
+    text: &str,
+    response: &mut Response,
+) -> Result<(), HeaderValueError>
+    requires { IsBlank response.old }
+    ensures { OnOk result (Shows is_bare headers.now (Some text.now) response.new) }
+{
+    if !is_bare {
+        return fill_whole(alloc, headers, text, response);
+    }
+    let condition = judged(alloc, headers, text)?;
+    fill_bare(condition, response)?;
     Ok(())
 }
 
@@ -93,12 +144,22 @@ pub fn unavailable(response: &mut Response)
     response.status = StatusCode::SERVICE_UNAVAILABLE;
 }
 
-/// Shows a text, or says that the server is unavailable.
-pub fn show(alloc: Global, headers: &HeaderMap, text: &str, response: &mut Response)
+/// Shows a text, or says that the server is unavailable. If `is_bare`, the response has no body and no tag.
+pub fn show(alloc: Global, is_bare: bool, headers: &HeaderMap, text: &str, response: &mut Response)
     requires { IsBlank response.old }
-    ensures { Shows headers.now (Some text.now) response.new ⊎ IsStatus 503 response.new }
+    ensures { Shows is_bare headers.now (Some text.now) response.new ⊎ IsStatus 503 response.new }
 {
-    if fill(alloc, headers, text, response).is_err() {
+    if fill(alloc, is_bare, headers, text, response).is_err() {
+        unavailable(response);
+    }
+}
+
+/// Shows what is there, without its text or tag, or says that the server is unavailable.
+pub fn show_bare(condition: Condition, response: &mut Response)
+    requires { IsBlank response.old }
+    ensures { ((text : List ℕ) → ShownBy true condition text response.new) ⊎ IsStatus 503 response.new }
+{
+    if fill_bare(condition, response).is_err() {
         unavailable(response);
     }
 }
@@ -115,20 +176,21 @@ pub fn not_allowed(response: &mut Response) -> Result<(), AllocError>
     )
 }
 
-/// Shows the body of a key, as the conditions of the request say.
+/// Shows the body of a key, as the conditions of the request say. If `is_bare`, the response has no body and no tag.
 pub fn read<S: Alter>(
     alloc: Global,
     conn: &mut Connection<S>,
     key: &str,
+    is_bare: bool,
     headers: &HeaderMap,
     response: &mut Response,
 )
     requires { IsBlank response.old }
     ensures { Goes (state S.Store conn.old) (state S.Store conn.new)
-        (Reads (outcome (state S.Store conn.old) response.new (state S.Store conn.new)) headers.now key.now) }
+        (Reads (outcome (state S.Store conn.old) response.new (state S.Store conn.new)) is_bare headers.now key.now) }
 {
     match texts::get(conn, key) {
-        Ok(Some(body)) => show(alloc, headers, body.as_str(), response),
+        Ok(Some(body)) => show(alloc, is_bare, headers, body.as_str(), response),
         Ok(None) => response.status = StatusCode::NOT_FOUND,
         Err(_) => response.status = StatusCode::SERVICE_UNAVAILABLE,
     }

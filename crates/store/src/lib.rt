@@ -5,6 +5,7 @@
 pub mod conditions;
 mod entries;
 pub mod explain;
+pub mod hosts;
 pub mod laws;
 mod lists;
 pub mod opening;

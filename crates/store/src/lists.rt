@@ -9,9 +9,10 @@ ghost use Rattle.rows.specs.Entries.{texts_of};
 ghost use Rattle.store.specs.Lists as spec;
 ghost use Rattle.store.specs.Lists.{IsLimit, member_text, object_text};
 ghost use Rattle.store.specs.Answered.{allow_list_field, problem_field, limit_problem, IsStatus, Shows};
-ghost use Rattle.store.specs.Answered.{outcome, ListsFrom, Lists, AnsweredList, Goes};
+ghost use Rattle.store.specs.Answered.{outcome, ShowsAny, ListsFrom, Lists, AnsweredList, Goes};
 
-use crate::entries::{bad_request, show, unavailable};
+use crate::conditions::{Condition, judge_any};
+use crate::entries::{bad_request, is_bare, show, show_bare, unavailable};
 use crate::reason::details;
 use crate::routes::is_read;
 use bytes::Bytes;
@@ -19,7 +20,7 @@ use form_urlencoded::parse;
 use http::{HeaderMap, HeaderValue, Request, StatusCode, header};
 use http_server::Response;
 use miniserde::ser::escape_str;
-use rows::texts;
+use rows::pages::page_from;
 use sqlite::{Alter, Connection};
 use std::alloc::{AllocError, Global};
 
@@ -28,6 +29,9 @@ const DEFAULT_LIMIT: u32 = 100;
 
 /// How many entries a request may ask for.
 const MAX_LIMIT: u32 = 1000;
+
+/// Before its last entry, a page has fewer bytes of keys and texts than this.
+const MAX_PAGE_BYTES: usize = 1024 * 1024;
 
 // Returns the value of the first parameter of a name in a query, or `None` if there is none.
 fn parameter(alloc: Global, query: &str, name: &str) -> Result<Option<String>, AllocError>
@@ -117,48 +121,92 @@ fn object_of(alloc: Global, entries: &[(String, String)]) -> miniserde::Result<S
 fn show_entries(
     alloc: Global,
     entries: &[(String, String)],
+    is_bare: bool,
     headers: &HeaderMap,
     response: &mut Response,
 )
     requires { IsBlank response.old }
-    ensures { Shows headers.now (Some (object_text (map texts_of entries.now))) response.new ⊎ IsStatus 503 response.new }
+    ensures { Shows is_bare headers.now (Some (object_text (map texts_of entries.now))) response.new ⊎ IsStatus 503 response.new }
 {
     match object_of(alloc, entries) {
-        Ok(text) => show(alloc, headers, text.as_str(), response),
+        Ok(text) => show(alloc, is_bare, headers, text.as_str(), response),
         Err(_) => response.status = StatusCode::SERVICE_UNAVAILABLE,
     }
 }
 
-// Shows the first entries from a key on, at most so many.
-fn list_from<S: Alter>(
+// Shows a page of the entries from a key on.
+fn page<S: Alter>(
     alloc: Global,
     conn: &mut Connection<S>,
     start: &str,
     limit: u32,
+    is_bare: bool,
     headers: &HeaderMap,
     response: &mut Response,
 )
     requires { IsBlank response.old }
     ensures { Goes (state S.Store conn.old) (state S.Store conn.new)
-        (ListsFrom (outcome (state S.Store conn.old) response.new (state S.Store conn.new)) headers.now start.now limit) }
+        (ListsFrom (outcome (state S.Store conn.old) response.new (state S.Store conn.new)) is_bare headers.now start.now limit) }
 {
-    match texts::range(alloc, conn, start, limit) {
-        Ok(entries) => show_entries(alloc, entries.as_slice(), headers, response),
+    match page_from(alloc, conn, start, limit, MAX_PAGE_BYTES) {
+        Ok(entries) => show_entries(alloc, entries.as_slice(), is_bare, headers, response),
         Err(_) => response.status = StatusCode::SERVICE_UNAVAILABLE,
     }
 }
 
-// Fills the response to a limit that is none.
+// Shows what any page would be shown as, if the database can be read: it reads one entry, and makes no text.
+fn any_page<S: Alter>(
+    alloc: Global,
+    conn: &mut Connection<S>,
+    start: &str,
+    condition: Condition,
+    response: &mut Response,
+)
+    requires { IsBlank response.old }
+    ensures { Goes (state S.Store conn.old) (state S.Store conn.new) (ShowsAny
+        (outcome (state S.Store conn.old) response.new (state S.Store conn.new)) condition) }
+{
+    match page_from(alloc, conn, start, 1, 1) {
+        Ok(_) => show_bare(condition, response),
+        Err(_) => response.status = StatusCode::SERVICE_UNAVAILABLE,
+    }
+}
+
+// Shows the entries from a key on. If the response has no body, and its status does not depend on the entries, none is made a
+// text.
+fn list_from<S: Alter>(
+    alloc: Global,
+    conn: &mut Connection<S>,
+    start: &str,
+    limit: u32,
+    is_bare: bool,
+    headers: &HeaderMap,
+    response: &mut Response,
+)
+    requires { IsBlank response.old }
+    ensures { Goes (state S.Store conn.old) (state S.Store conn.new)
+        (ListsFrom (outcome (state S.Store conn.old) response.new (state S.Store conn.new)) is_bare headers.now start.now limit) }
+{
+    if is_bare {
+        if let Some(condition) = judge_any(headers) {
+            any_page(alloc, conn, start, condition, response);
+            return;
+        }
+    }
+    page(alloc, conn, start, limit, is_bare, headers, response)
+}
+
+// Fills the response to a limit that is not valid.
 fn fill_limit_problem(alloc: Global, response: &mut Response) -> miniserde::Result<()>
     requires { IsBlank response.old }
     ensures { OnOk result (IsResponse 400 (problem_field ∷ []) limit_problem response.new) }
 {
-    let details = details(alloc, "the limit is no number from 1 to 1000", &None)?;
+    let details = details(alloc, "`limit` must be a number from 1 to 1000", &None)?;
     bad_request(details.as_str(), response)?;
     Ok(())
 }
 
-// Says that the limit is none, or that the server is unavailable.
+// Says that the limit is not valid, or that the server is unavailable.
 fn refuse_limit(alloc: Global, response: &mut Response)
     requires { IsBlank response.old }
     ensures { IsResponse 400 (problem_field ∷ []) limit_problem response.new ⊎ IsStatus 503 response.new }
@@ -173,12 +221,13 @@ fn list<S: Alter>(
     alloc: Global,
     conn: &mut Connection<S>,
     query: &str,
+    is_bare: bool,
     headers: &HeaderMap,
     response: &mut Response,
 )
     requires { IsBlank response.old }
     ensures { Goes (state S.Store conn.old) (state S.Store conn.new)
-        (Lists (outcome (state S.Store conn.old) response.new (state S.Store conn.new)) headers.now query.now) }
+        (Lists (outcome (state S.Store conn.old) response.new (state S.Store conn.new)) is_bare headers.now query.now) }
 {
     let Ok(limit) = parameter(alloc, query, "limit") else {
         response.status = StatusCode::SERVICE_UNAVAILABLE;
@@ -189,7 +238,10 @@ fn list<S: Alter>(
         return;
     };
     match limit_of(&limit) {
-        Some(limit) => list_from(alloc, conn, start_of(&from), limit, headers, response),
+        Some(limit) => {
+            let start = start_of(&from);
+            list_from(alloc, conn, start, limit, is_bare, headers, response)
+        }
         None => refuse_limit(alloc, response),
     }
 }
@@ -220,6 +272,8 @@ pub fn answer_list<S: Alter>(
         return not_allowed(response);
     }
     let query = request.uri().query().unwrap_or("");
-    list(alloc, conn, query, request.headers(), response);
+    let headers = request.headers();
+    let bare = is_bare(request.method(), headers);
+    list(alloc, conn, query, bare, headers, response);
     Ok(())
 }

@@ -1,4 +1,4 @@
-//! Why a body means no value, and the problem details that say so (RFC 9457).
+//! Why a body does not match the type, and the problem details that say so (RFC 9457).
 ghost use Rattle.std.specs.Prelude.{◌≡◌, IfOk, option_map, string_bytes};
 ghost use Rattle.miniserde.specs.Compact.{compact};
 ghost use Rattle.store.specs.Reasons as spec;
@@ -13,14 +13,14 @@ use std::alloc::Global;
 /// The names of the members of a problem.
 const PROBLEM_NAMES: &[&str] = &["title", "status", "detail", "field"];
 
-/// Why a body means no value.
+/// Why a body does not match the type.
 #[derive(Debug, Drop)]
 pub enum Reason {
-    /// It is no JSON text.
+    /// It is not a JSON text.
     NoJson,
-    /// It has no value for the field at the path. If the path is empty, it is no object.
+    /// It has no value for the field at the path. If the path is empty, it is not an object.
     Field(FieldPath),
-    /// It is a JSON text that means no value of the type.
+    /// It is a JSON text that does not match the type.
     NoValue,
 }
 
@@ -40,7 +40,7 @@ fn field_detail(alloc: Global, field: &Option<String>) -> Result<String>
 {
     match field {
         Some(field) => Ok(format!(in alloc; "the field {field} is wrong")?),
-        None => Ok("the body is no object".to_string(alloc)?),
+        None => Ok("the body is not an object".to_string(alloc)?),
     }
 }
 
@@ -66,12 +66,12 @@ pub fn problem_text(alloc: Global, reason: &Reason) -> Result<String>
     ensures { IfOk result (λ text. string_bytes text ≡ spec.problem_text reason.now) }
 {
     match reason {
-        Reason::NoJson => details(alloc, "the body is no JSON", &None),
+        Reason::NoJson => details(alloc, "the body is not valid JSON", &None),
         Reason::Field(path) => {
             let field = field_of(alloc, path)?;
             let detail = field_detail(alloc, &field)?;
             details(alloc, detail.as_str(), &field)
         }
-        Reason::NoValue => details(alloc, "the body means no value", &None),
+        Reason::NoValue => details(alloc, "the body does not match the expected type", &None),
     }
 }

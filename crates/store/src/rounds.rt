@@ -1,5 +1,5 @@
 //! The store in rounds: the changes of a round are one commit, and its responses stand once that is done.
-ghost use Rattle.std.specs.Prelude.{◌≡◌, ◌⊎◌, true, if◌then◌else◌, IsTrue, IfOk, OnErr};
+ghost use Rattle.std.specs.Prelude.{◌≡◌, ◌⊎◌, map, string_bytes, true, if◌then◌else◌, IsTrue, IfOk, OnErr};
 ghost use Rattle.http_server.specs.Response.{IsBlank};
 ghost use Rattle.sqlite.specs.Held.{state};
 ghost use Rattle.sqlite.specs.State.{HasCleanDisk};
@@ -7,8 +7,9 @@ ghost use Rattle.store.specs.Answered.{codec, outcome};
 ghost use Rattle.store.specs.Maps.{Map, ReadsMap, PutsMap, RemovesMap, AnsweredListMap};
 ghost use Rattle.store.specs.Rounds.{IsUnderWay, IsOff, InRound, IsBetween};
 
-use crate::entries::{not_allowed, put, read, remove};
+use crate::entries::{is_bare, not_allowed, put, read, remove};
 use crate::explain::{ByValue, Explain};
+use crate::hosts::is_for_host;
 use crate::lists::answer_list;
 use crate::routes::{Verb, entry_key, is_list, verb_of};
 use bytes::Bytes;
@@ -70,6 +71,7 @@ fn read_in_round<S: Alter>(
     alloc: Global,
     conn: &mut Connection<S>,
     key: &str,
+    is_bare: bool,
     headers: &HeaderMap,
     response: &mut Response,
 ) -> bool
@@ -77,10 +79,10 @@ fn read_in_round<S: Alter>(
     ensures { HasCleanDisk (state S.Store conn.new) → HasCleanDisk (state S.Store conn.old)
         × ((begun m : Map) → IsUnderWay begun (state S.Store conn.old) m → (after : Map)
         × InRound begun (state S.Store conn.new) result after
-        × (IsTrue result → ReadsMap (outcome m response.new after) headers.now key.now)) }
+        × (IsTrue result → ReadsMap (outcome m response.new after) is_bare headers.now key.now)) }
 {
     let begun = texts::is_in_transaction(conn);
-    read(alloc, conn, key, headers, response);
+    read(alloc, conn, key, is_bare, headers, response);
     if !begun {
         return true;
     }
@@ -156,37 +158,41 @@ fn list_in_round<S: Alter>(
     Ok(texts::is_in_transaction(conn))
 }
 
-/// Entries of the type `V` in a database, where the changes of a round are one commit. The response to a body that means no
-/// value says why in the way `E`. A clause sees the connection, and whether the round stands.
+/// Entries of the type `V` in a database, for requests for one of its hosts, where the changes of a round are one commit. The
+/// response to a body that does not match the type says why in the way `E`. A clause sees the connection, whether the round
+/// stands, and the hosts.
 #[derive(Drop)]
 pub struct RoundService<S: Alter, V, E = ByValue> {
     alloc: Global,
     conn: Connection<S>,
     stands: bool,
+    hosts: Vec<String>,
     of: PhantomData<(V, E)>,
 }
 
 impl<S: Alter, V, E> Model for RoundService<S, V, E> {
-    ghost use Rattle.std.specs.Prelude.{Bool};
-    ghost use Rattle.std.specs.Coded.{coded×, coded_bool};
+    ghost use Rattle.std.specs.Prelude.{ℕ, Bool, List, map, string_bytes};
+    ghost use Rattle.std.specs.Coded.{coded×, coded_bool, coded_list, coded_ℕ};
     ghost use Rattle.sqlite.specs.Held.{Held, held_code};
 
-    ghost Value = { Held S × Bool };
+    ghost Value = { Held S × Bool × List (List ℕ) };
 
-    ghost coded = { coded× (held_code S.code) coded_bool };
+    ghost coded = { coded× (held_code S.code) (coded× coded_bool (coded_list (coded_list coded_ℕ))) };
 
-    ghost view = { λ s. (s.conn, s.stands) };
+    ghost view = { λ s. (s.conn, s.stands, map string_bytes s.hosts.items) };
 }
 
 impl<S: Alter, V: Stable + Lossless, E: Explain<V>> RoundService<S, V, E> {
-    /// Returns the store of a connection. The clauses on values suppose that it has the table.
-    pub fn new(alloc: Global, conn: Connection<S>) -> RoundService<S, V, E>
-        ensures { result ≡ (conn, true) }
+    /// Returns the store of a connection for these hosts, as `localhost`. The clauses on values suppose that the database has
+    /// the table.
+    pub fn new(alloc: Global, conn: Connection<S>, hosts: Vec<String>) -> RoundService<S, V, E>
+        ensures { result ≡ (conn, true, map string_bytes hosts.items) }
     {
         RoundService {
             alloc,
             conn,
             stands: true,
+            hosts,
             of: PhantomData,
         }
     }
@@ -199,6 +205,7 @@ impl<S: Alter, V: Stable + Lossless, E: Explain<V>> RoundService<S, V, E> {
             alloc: _,
             conn,
             stands: _,
+            hosts: _,
             of: _,
         } = self;
         conn
@@ -210,10 +217,11 @@ impl<S: Alter, V: Stable + Lossless, E: Explain<V>> Settle for RoundService<S, V
     ghost use Rattle.store.specs.Answered.{codec, outcome};
     ghost use Rattle.store.specs.Rounds.{round_state, AnsweredInRound, SettlesRound};
 
-    ghost answers = { λ old request response new. AnsweredInRound (codec V.means V.tree) request
+    ghost answers = { λ old request response new. (new.2 ≡ old.2) × AnsweredInRound old.2 (codec V.means V.tree) request
         (outcome (round_state (state S.Store old.0) old.1) response (round_state (state S.Store new.0) new.1)) };
 
-    ghost settles = { λ old kept new. SettlesRound (state S.Store old.0) old.1 kept (state S.Store new.0) new.1 };
+    ghost settles = { λ old kept new. (new.2 ≡ old.2)
+        × SettlesRound (state S.Store old.0) old.1 kept (state S.Store new.0) new.1 };
 
     fn call(
         &mut self,
@@ -222,6 +230,10 @@ impl<S: Alter, V: Stable + Lossless, E: Explain<V>> Settle for RoundService<S, V
     ) -> Result<(), AllocError> {
         if !self.stands {
             response.status = StatusCode::SERVICE_UNAVAILABLE;
+            return Ok(());
+        }
+        if !is_for_host(self.hosts.as_slice(), request) {
+            response.status = StatusCode::MISDIRECTED_REQUEST;
             return Ok(());
         }
         if is_list(request.uri().path()) {
@@ -235,7 +247,15 @@ impl<S: Alter, V: Stable + Lossless, E: Explain<V>> Settle for RoundService<S, V
         let (key, headers) = (key.as_str(), request.headers());
         match verb_of(request.method()) {
             Verb::Read => {
-                self.stands = read_in_round(self.alloc, &mut self.conn, key, headers, response)
+                let bare = is_bare(request.method(), headers);
+                self.stands = read_in_round(
+                    self.alloc,
+                    &mut self.conn,
+                    key,
+                    bare,
+                    headers,
+                    response,
+                )
             }
             Verb::Put => {
                 let body = request.body().as_slice();

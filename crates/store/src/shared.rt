@@ -6,7 +6,7 @@ ghost use Rattle.sqlite.specs.State.{HasCleanDisk};
 ghost use Rattle.slab.specs.Slab.{get};
 ghost use Rattle.turns.specs.Shared.{Turns, IsShared, IsAtRest, OthersStay};
 ghost use Rattle.store.specs.Answered.{codec};
-ghost use Rattle.store.specs.Maps.{Map, AnsweredMap, ServesMap};
+ghost use Rattle.store.specs.Maps.{Map, AnsweredMapFor, ServesMap};
 ghost use Rattle.turns.specs.Settled.{IsSettled};
 ghost use Rattle.store.specs.Rounds.{IsBetween, AnsweredIf, LeavesMap};
 
@@ -33,10 +33,10 @@ pub fn serve_round<S: Alter, V: Stable + Lossless, E: Explain<V>, T: Read + Writ
 ) -> Result<(), AllocError>
     // The responses of all connections, in the order of their turns, are those of one map that begins with the rows of the
     // store, and the rows afterwards are the map's last entries. Those of each connection are the ones of its turns.
-    ensures shared { HasCleanDisk (state S.Store service.new) → (m : Map) → ServesMap (state S.Store service.old) m
+    ensures shared { HasCleanDisk (state S.Store service.new.0) → (m : Map) → ServesMap (state S.Store service.old.0) m
         → (turns : Turns) × (after : Map)
-        × IsShared (AnsweredMap (codec V.means V.tree)) m after (get peers.old) (get peers.new) turns
-        × ServesMap (state S.Store service.new) after }
+        × IsShared (AnsweredMapFor service.old.1 (codec V.means V.tree)) m after (get peers.old) (get peers.new) turns
+        × ServesMap (state S.Store service.new.0) after }
 
     // Each connection of these keys has had its turn: if it is still there and open, it has called the service for
     // each whole request that it received, as far as its output has room.
@@ -66,7 +66,7 @@ pub fn serve_settled_round<S: Alter, V: Stable + Lossless, E: Explain<V>, T: Rea
     // committed, the map is the one from before, and none of these connections is left.
     ensures settled { IfOk result (λ kept. HasCleanDisk (state S.Store service.new.0) → (m : Map)
         → IsBetween m (state S.Store service.old.0) service.old.1 → (turns : Turns) × (last : Map)
-        × IsSettled (AnsweredIf (codec V.means V.tree) kept) (LeavesMap m) T.remaining T.contents keys.now m last
+        × IsSettled (AnsweredIf service.old.2 (codec V.means V.tree) kept) (LeavesMap m) T.remaining T.contents keys.now m last
         (get peers.old) (get peers.new) turns kept
         × IsBetween last (state S.Store service.new.0) service.new.1
         × (IsTrue kept → IsTrue service.new.1 × (IsTrue (state S.Store service.new.0).is_open ⊎ (last ≡ m)))) }

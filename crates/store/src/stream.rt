@@ -18,8 +18,9 @@ use std::hash::RandomState;
 use std::io;
 use std::io::{Read, Write};
 
-/// Reads requests, and writes the responses of a store. Returns the error of a read or a write that fails. If memory
-/// runs out, the connection ends there, with an error or with none.
+/// Reads requests, and writes the responses of a store. Returns the error of a read, a write or a flush that fails; `WriteZero`
+/// if a write takes no byte, and `TimedOut` after 2^64 steps. If an allocation fails, a request gets 503, or the connection
+/// ends there, with an error or with none.
 pub fn serve_stream<S: Alter, V: Stable + Lossless, E: Explain<V>, R: Read, W: Write>(
     alloc: Global,
     keys: RandomState,
@@ -31,11 +32,11 @@ pub fn serve_stream<S: Alter, V: Stable + Lossless, E: Explain<V>, R: Read, W: W
     // What was read is what the connection received, and what was written is what it sent. Its responses are those of a
     // map that begins with the rows of the store, and the rows afterwards are the map's last entries. If it returns no error,
     // nothing is left to do.
-    ensures served { HasCleanDisk (state S.Store service.new) → (m : Map)
-        → ServesMap (state S.Store service.old) m → (h : History) × (after : Map)
+    ensures served { HasCleanDisk (state S.Store service.new.0) → (m : Map)
+        → ServesMap (state S.Store service.old.0) m → (h : History) × (after : Map)
         × Consumes (R.remaining reader.old) (R.remaining reader.new) h.received
         × Appends (W.contents writer.old) (W.contents writer.new) h.sent
-        × IsServedByMap (codec V.means V.tree) config h m after × ServesMap (state S.Store service.new) after
+        × IsServedByMap service.old.1 (codec V.means V.tree) config h m after × ServesMap (state S.Store service.new.0) after
         × OnOk result (IsDone h) }
 {
     let mut connection = Connection::new(alloc, keys, config);

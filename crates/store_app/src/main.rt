@@ -1,4 +1,5 @@
 //! Serves the requests of standard input by the entries of a file of SQLite, and writes the responses to standard output.
+//! It answers requests for this machine's own names and for the hosts of the command line.
 #![tactic(auto)]
 
 mod goods;
@@ -12,12 +13,17 @@ use std::hash::RandomState;
 use std::process::ExitCode;
 use std::{env, io};
 use store::explain::ByField;
+use store::hosts::local_hosts;
 use store::opening::prepare;
 use store::service::StoreService;
 use store::stream::serve_stream;
 
 /// Serves the requests of standard input by the entries of a store. Returns the status to exit with.
-fn serve<D: Disk + Drop>(rt: &HostRuntime, mut conn: Connection<FileStore<D>>) -> io::Result<u8> {
+fn serve<D: Disk + Drop>(
+    rt: &HostRuntime,
+    mut conn: Connection<FileStore<D>>,
+    hosts: Vec<String>,
+) -> io::Result<u8> {
     if !texts::is_empty(&conn) && !texts::is_store(&conn) {
         return Ok(1);
     }
@@ -27,6 +33,7 @@ fn serve<D: Disk + Drop>(rt: &HostRuntime, mut conn: Connection<FileStore<D>>) -
     let mut service: StoreService<FileStore<D>, Goods, ByField> = StoreService::new(
         rt.alloc(),
         conn,
+        hosts,
     );
     let keys = RandomState::new(rt)?;
     let (mut reader, mut writer) = (rt.stdin(), io::writer(rt));
@@ -44,15 +51,23 @@ fn serve<D: Disk + Drop>(rt: &HostRuntime, mut conn: Connection<FileStore<D>>) -
     Ok(0)
 }
 
-/// Serves the file of the first word of the command line. Returns the status to exit with.
+/// Serves the file of the first word of the command line, for the hosts that follow it. Returns the status to exit with.
 fn run(rt: &HostRuntime) -> io::Result<u8> {
-    let Some(path) = env::args(rt)?.nth(1) else {
-        eprintln!(rt; "usage: store_app FILE")?;
+    let mut words = env::args(rt)?.skip(1);
+    let Some(path) = words.next() else {
+        eprintln!(rt; "usage: store_app FILE [HOST..]")?;
         return Ok(2);
     };
+    let mut hosts = local_hosts(rt.alloc())?;
+    for host in words {
+        hosts.push(host)?;
+    }
     match files::open(rt, path.as_str(), Unknown) {
-        Ok(conn) => serve(rt, conn),
-        Err(_) => Ok(1),
+        Ok(conn) => serve(rt, conn, hosts),
+        Err(error) => {
+            eprintln!(rt; "{path}: {error}")?;
+            Ok(1)
+        }
     }
 }
 

@@ -1,6 +1,7 @@
 //! Numbers under texts, in files in memory that are opened again.
 
 use rows::error::Error;
+use rows::pages::page_from;
 use rows::{files, texts, values};
 use sqlite::{Alter, Connection, FileStore, Files, Options};
 use sqlite_disk::{Disk, Memory};
@@ -73,9 +74,10 @@ fn page<S: Alter>(
     conn: &mut Connection<S>,
     from: &str,
     limit: u32,
+    max_bytes: usize,
     wanted: &str,
 ) -> Result<bool, Error> {
-    let page = texts::range(alloc, conn, from, limit)?;
+    let page = page_from(alloc, conn, from, limit, max_bytes)?;
     let mut keys = String::new(alloc);
     for row in page.iter() {
         keys.push_str(row.0.as_str())?;
@@ -118,16 +120,20 @@ fn refuses<S: Alter>(alloc: Global, conn: &mut Connection<S>, key: &String) -> R
     texts::put(conn, "\"nails\"", "[]")?;
     let body = texts::get(conn, "\"nails\"")?;
     let found: Result<Option<u64>, Error> = values::get(alloc, conn, key);
-    let invalid = matches!(found, Err(Error::Json(miniserde::Error::Invalid)));
+    let invalid = matches!(found, Err(Error::Invalid));
     Ok(invalid & (body.as_deref() == Some("[]")) & (values::value_of::<u64>(alloc, "7")? == 7))
 }
 
-const PAGES: &[(&str, u32, &str)] = &[
-    ("", 9, "\"nails\"\"rope \\\"thin\\\"\""),
-    ("\"nails\"", 1, "\"nails\""),
-    ("\"nails\"!", 9, "\"rope \\\"thin\\\"\""),
-    ("", 0, ""),
-    ("a", 9, ""),
+// Pages of these two rows, whose keys and bodies have 8 and 16 bytes: from a key on, up to a number of rows and of bytes.
+const PAGES: &[(&str, u32, usize, &str)] = &[
+    ("", 9, 1000, "\"nails\"\"rope \\\"thin\\\"\""),
+    ("\"nails\"", 1, 1000, "\"nails\""),
+    ("\"nails\"!", 9, 1000, "\"rope \\\"thin\\\"\""),
+    ("", 0, 1000, ""),
+    ("a", 9, 1000, ""),
+    ("", 9, 0, "\"nails\""),
+    ("", 9, 8, "\"nails\""),
+    ("", 9, 9, "\"nails\"\"rope \\\"thin\\\"\""),
 ];
 
 // Returns whether rows are put, found, listed and removed.
@@ -140,8 +146,8 @@ fn are_kept<S: Alter>(
     let made = create(conn)? & is(alloc, conn, nails, None)?;
     let committed = commits(alloc, conn, nails, rope)? & rolls_back(alloc, conn, nails, rope)?;
     let mut right = made & committed & is(alloc, conn, nails, Some(1))? & count(alloc, conn, 2)?;
-    for (from, limit, wanted) in PAGES {
-        right = right & page(alloc, conn, from, *limit, wanted)?;
+    for (from, limit, max_bytes, wanted) in PAGES {
+        right = right & page(alloc, conn, from, *limit, *max_bytes, wanted)?;
     }
     let changed = put(alloc, conn, nails, 7)? & removes(conn, "\"rope \\\"thin\\\"\"")?;
     Ok(right & changed & count(alloc, conn, 1)?)

@@ -1,6 +1,8 @@
 //! Tests of rows in SQLite, of turns, and of a store over both.
 #![tactic(auto)]
 
+#[cfg(test)]
+mod bounds;
 pub mod counted;
 #[cfg(test)]
 mod kept;

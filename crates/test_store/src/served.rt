@@ -5,6 +5,7 @@ use rows::texts;
 use sqlite::{Alter, Connection};
 use std::hash::RandomState;
 use std::test::Fail;
+use store::hosts::local_hosts;
 use store::laws::last_put_is_shown;
 use store::opening::prepare;
 use store::service::StoreService;
@@ -26,20 +27,20 @@ const REQUESTS: &[(&str, &str, &str, &str)] = &[
         "HEAD /entries/a",
         "Accept: */*",
         "",
-        "200 OK\r\ncontent-type: application/json\r\netag: \"11fe879ab1e1913bf68875fc2be09d52189e668b3eec523c303d146809d30bfa\"\r\ncontent-length: 7\r\n\r\n",
+        "200 OK\r\ncontent-type: application/json\r\n\r\n",
     ),
     ("GET /entries/ab", "Accept: */*", "", "404 "),
     (
         "PUT /entries/a",
         "Accept: */*",
         "",
-        "400 Bad Request\r\ncontent-type: application/problem+json\r\ncontent-length: 67\r\n\r\n{\"title\":\"Bad Request\",\"status\":400,\"detail\":\"the body is no JSON\"}",
+        "400 Bad Request\r\ncontent-type: application/problem+json\r\ncontent-length: 74\r\n\r\n{\"title\":\"Bad Request\",\"status\":400,\"detail\":\"the body is not valid JSON\"}",
     ),
     (
         "PUT /entries/a",
         "Accept: */*",
         "7",
-        "400 Bad Request\r\ncontent-type: application/problem+json\r\ncontent-length: 71\r\n\r\n{\"title\":\"Bad Request\",\"status\":400,\"detail\":\"the body means no value\"}",
+        "400 Bad Request\r\ncontent-type: application/problem+json\r\ncontent-length: 89\r\n\r\n{\"title\":\"Bad Request\",\"status\":400,\"detail\":\"the body does not match the expected type\"}",
     ),
     (
         "POST /entries/a",
@@ -175,8 +176,27 @@ const LISTS: &[(&str, &str, &str, &str)] = &[
     (
         "HEAD /entries?limit=1",
         "Accept: */*",
-        "200 OK\r\ncontent-type: application/json\r\netag: \"31f39ab8124f81058568299929742148fc11e0251faaffd5f4c5274f825d97ba\"\r\ncontent-length: 12\r\n",
-        "\r\n\r\n",
+        "200 OK\r\ncontent-type: application/json\r\n\r\n",
+        "",
+    ),
+    (
+        "HEAD /entries?limit=1",
+        "If-None-Match: \"31f39ab8124f81058568299929742148fc11e0251faaffd5f4c5274f825d97ba\"",
+        "304 Not Modified\r\n\r\n",
+        "",
+    ),
+    (
+        "GET /entries?limit=1",
+        "If-None-Match: *",
+        "304 Not Modified\r\n\r\n",
+        "",
+    ),
+    ("HEAD /entries", "If-Match: \"x\"", "412 ", "\r\n\r\n"),
+    (
+        "GET /entries?limit=1",
+        "If-None-Match: \"31f39ab8124f81058568299929742148fc11e0251faaffd5f4c5274f825d97ba\"",
+        "304 Not Modified\r\netag: \"31f39ab8124f81058568299929742148fc11e0251faaffd5f4c5274f825d97ba\"\r\n\r\n",
+        "",
     ),
     (
         "GET /entries?limit=1",
@@ -189,8 +209,8 @@ const LISTS: &[(&str, &str, &str, &str)] = &[
     (
         "GET /entries?limit=0",
         "Accept: */*",
-        "400 Bad Request\r\ncontent-type: application/problem+json\r\ncontent-length: 85\r\n",
-        "\r\n\r\n{\"title\":\"Bad Request\",\"status\":400,\"detail\":\"the limit is no number from 1 to 1000\"}",
+        "400 Bad Request\r\ncontent-type: application/problem+json\r\ncontent-length: 87\r\n",
+        "\r\n\r\n{\"title\":\"Bad Request\",\"status\":400,\"detail\":\"`limit` must be a number from 1 to 1000\"}",
     ),
     ("GET /entries?limit=1001", "Accept: */*", "400 ", "}"),
     ("GET /entries?limit=-1", "Accept: */*", "400 ", "}"),
@@ -208,27 +228,46 @@ const LISTS: &[(&str, &str, &str, &str)] = &[
     ("GET /%65ntries", "Accept: */*", "404 ", "\r\n\r\n"),
 ];
 
+// Requests in a row for hosts that are served and for others, and what each response begins with.
+const HOSTS: &[(&str, &str)] = &[
+    ("PUT /entries/k HTTP/1.1\r\nHost: evil.example:8080", "421 "),
+    ("PUT /entries/k HTTP/1.1\r\nHost: b", "421 "),
+    ("DELETE /entries/k HTTP/1.1\r\nHost: ab", "421 "),
+    ("GET /entries/k HTTP/1.1\r\nHost: a", "404 "),
+    ("GET / HTTP/1.1\r\nHost: b", "421 "),
+    ("GET /entries HTTP/1.1\r\nHost:", "421 "),
+    ("GET http://b/entries HTTP/1.1\r\nHost: a", "421 "),
+    ("GET http://a:1/entries HTTP/1.1\r\nHost: b", "200 "),
+    ("GET /entries HTTP/1.1\r\nHost: a:8080", "200 "),
+    ("GET /entries HTTP/1.1\r\nHost: LocalHost", "200 "),
+    ("GET /entries HTTP/1.1\r\nHost: 127.0.0.1:80", "200 "),
+    ("GET /entries HTTP/1.1\r\nHost: [::1]:8080", "200 "),
+];
+
+/// Returns the hosts that are served here: those of this machine, and `a`.
+pub fn hosts(rt: &HostRuntime) -> Result<Vec<String>, Fail> {
+    let mut hosts = local_hosts(rt.alloc())?;
+    hosts.push("a".to_string(rt.alloc())?)?;
+    Ok(hosts)
+}
+
 /// Makes the table of a database, and returns its store.
 pub fn store_of<S: Alter + Drop>(
     rt: &HostRuntime,
     mut conn: Connection<S>,
 ) -> Result<StoreService<S, String>, Fail> {
     prepare(&mut conn)?;
-    Ok(StoreService::new(rt.alloc(), conn))
+    Ok(StoreService::new(rt.alloc(), conn, hosts(rt)?))
 }
 
-// Serves a request of these line, field and body, and returns what was sent.
-fn sent<S: Alter>(
+// Serves a request of this head, which lacks only its length, and returns what was sent.
+fn sent_by<S: Alter>(
     rt: &HostRuntime,
     service: &mut StoreService<S, String>,
-    line: &str,
-    field: &str,
+    head: &str,
     body: &str,
 ) -> Result<String, Fail> {
-    let stream = format!(in rt.alloc();
-        "{line} HTTP/1.1\r\nHost: a\r\n{field}\r\nContent-Length: {}\r\n\r\n{body}",
-        body.len()
-    )?;
+    let stream = format!(in rt.alloc(); "{head}\r\nContent-Length: {}\r\n\r\n{body}", body.len())?;
     let keys = RandomState::new(rt)?;
     let mut output = Vec::new(rt.alloc());
     serve_stream(
@@ -242,8 +281,20 @@ fn sent<S: Alter>(
     Ok(String::from_utf8(output)?)
 }
 
-// Returns whether a response begins and ends so.
-fn fits(response: &str, begin: &str, end: &str) -> bool {
+/// Serves a request of these line, field and body, and returns what was sent.
+pub fn sent<S: Alter>(
+    rt: &HostRuntime,
+    service: &mut StoreService<S, String>,
+    line: &str,
+    field: &str,
+    body: &str,
+) -> Result<String, Fail> {
+    let head = format!(in rt.alloc(); "{line} HTTP/1.1\r\nHost: a\r\n{field}")?;
+    sent_by(rt, service, head.as_str(), body)
+}
+
+/// Returns whether a response begins and ends so.
+pub fn fits(response: &str, begin: &str, end: &str) -> bool {
     match response.strip_prefix("HTTP/1.1 ") {
         Some(rest) => rest.starts_with(begin) && rest.ends_with(end),
         None => false,
@@ -283,6 +334,24 @@ fn has_lists<S: Alter + Drop>(rt: &HostRuntime, conn: Connection<S>) -> Result<b
         right = right & fits(response.as_str(), begin, end);
     }
     Ok(right)
+}
+
+// Returns whether requests for other hosts are refused, and change nothing.
+fn has_hosts<S: Alter + Drop>(rt: &HostRuntime, conn: Connection<S>) -> Result<bool, Fail> {
+    let mut service = store_of(rt, conn)?;
+    for (head, wanted) in HOSTS {
+        let response = sent_by(rt, &mut service, head, "\"nails\"")?;
+        if !fits(response.as_str(), wanted, "") {
+            return Ok(false);
+        }
+    }
+    Ok(true)
+}
+
+#[test]
+fn requests_are_for_a_host(rt: HostRuntime) -> Result<(), Fail> {
+    assert!(rt; has_hosts(&rt, Connection::open_in_memory(rt.alloc())?)?);
+    Ok(())
 }
 
 #[test]

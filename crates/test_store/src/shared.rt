@@ -1,6 +1,6 @@
 //! Connections that share a store, each turn by itself and a round in one commit.
 
-use crate::served::store_of;
+use crate::served::{hosts, store_of};
 use crate::wires::{Client, WAITING, Wire, seated};
 use rows::texts;
 use slab::Slab;
@@ -66,7 +66,7 @@ fn are_settled<S: Alter>(
 // Returns whether the readers have their responses, and the entry is committed.
 fn are_committed<S: Alter + Drop>(rt: &HostRuntime, conn: Connection<S>) -> Result<bool, Fail> {
     let conn = store_of(rt, conn)?.into_connection();
-    let mut service: RoundService<S, String> = RoundService::new(rt.alloc(), conn);
+    let mut service: RoundService<S, String> = RoundService::new(rt.alloc(), conn, hosts(rt)?);
     let settled = are_settled(rt, &mut service)?;
     let mut conn = service.into_connection();
     let outside = !texts::is_in_transaction(&conn);

@@ -28,4 +28,7 @@ returns-in_err-value-in-Some-clause-invalid g c clean has wrong =
     )
 
 pub returns-in_err-key-clause-unread : goal.returns-in_err-key-clause-unread
-returns-in_err-key-clause-unread g c clean has live error is = unmoved (state g.S.Store c.args.conn.now) live
+returns-in_err-key-clause-unread g c clean has live is = unmoved (state g.S.Store c.args.conn.now) live
+
+pub returns-in_err-key-clause-lacking : goal.returns-in_err-key-clause-lacking
+returns-in_err-key-clause-lacking g c clean has live is = unmoved (state g.S.Store c.args.conn.now) live

@@ -5,7 +5,8 @@ use Rattle.sqlite.specs.State.{HasCleanDisk}
 use Rattle.sqlite.specs.Held.{state}
 use Rattle.rows.specs.Entries.{each_text}
 use Rattle.rows.proofs.Serving.{aborts_keeps, aborts_serving, query_aborts, on_err}
-use Rattle.rows.proofs.Walks.{starts, starts_open, reads, took, takes_first, stops, takes_all}
+use Rattle.rows.proofs.Readings.{starts_open}
+use Rattle.rows.proofs.Walks.{starts, reads, took, takes_first, stops, takes_all}
 use Rattle.rows.proofs.visits.visit_rows.Goals as goal
 
 pub returns-in_err-rows-clause-aborts : goal.returns-in_err-rows-clause-aborts
@@ -43,7 +44,7 @@ rows-init g c =
       λ clean.
           let begins = made.begun clean in (
             omega (arith, made.survives.clean),
-            starts_open g.S.Store old now begins,
+            starts_open g.S.Store each_text [] old now begins,
             starts g.S.Store g.V.Visit.takes old now c.args.visitor.now begins,
           ),
     )

@@ -12,7 +12,7 @@ returns-in-Ok-Some g c =
     let new = state g.S.Store c.get.new.conn in
     let key = c.args.key.now in
     let rows = c.in-Ok-Some.ensures in
-    read_found old new c.args.headers.now key (Some c.as_str.result.now) c.show.new.response
+    read_found old new c.args.is_bare c.args.headers.now key (Some c.as_str.result.now) c.show.new.response
     (found old new (IsCurrent old.now key (Some c.as_str.result.now))
     (record { clean = rows.clean; serving = rows.serving; live = rows.live; kept = rows.kept; same = rows.same })
     (λ clean has. subst (Holds old.now key) (sym c.as_str.ensures.value) (rw c.in-Ok-Some.field-0-is at (rows.some clean has))))
@@ -24,7 +24,7 @@ returns-in-Ok-None g c =
     let new = state g.S.Store c.get.new.conn in
     let key = c.args.key.now in
     let rows = c.in-Ok-None.ensures in
-    read_found old new c.args.headers.now key None _
+    read_found old new c.args.is_bare c.args.headers.now key None _
     (found old new (IsCurrent old.now key None)
     (record { clean = rows.clean; serving = rows.serving; live = rows.live; kept = rows.kept; same = rows.same })
     (λ clean has. rows.none clean has (ap Ok c.in-Ok-None.field-0-is)))
@@ -35,6 +35,6 @@ returns-in-Err g c =
     let old = state g.S.Store c.args.conn.now in
     let new = state g.S.Store c.get.new.conn in
     let rows = c.in-Err.ensures in
-    goes_by old new (Keeps old new) (Reads (outcome old _ new) c.args.headers.now c.args.key.now)
+    goes_by old new (Keeps old new) (Reads (outcome old _ new) c.args.is_bare c.args.headers.now c.args.key.now)
     (λ kept. (kept, inr (record { status = refl; headers = c.requires.headers; body = c.requires.body })))
     (failed_keeps old new (record { clean = rows.clean; serving = rows.serving; kept = rows.kept; aborts = rows.aborts }))

@@ -4,4 +4,4 @@ use Rattle.store.proofs.LastLemmas.{last_put_shown}
 use Rattle.store.proofs.laws.last_put_is_shown.Goals as goal
 
 pub returns : goal.returns
-returns g c calls m key chain = last_put_shown (codec g.V.FromJson.means g.V.Serialize.tree) key calls m chain
+returns g c hosts calls m key chain = last_put_shown (codec g.V.FromJson.means g.V.Serialize.tree) key hosts calls m chain

@@ -5,9 +5,9 @@ use Rattle.std.specs.Option.{option_copied}
 use Rattle.std.specs.Borrow.{Bor}
 use Rattle.http_uri.specs.Uri.{uri_query}
 use Rattle.sqlite.specs.Held.{state}
-use Rattle.store.specs.Routes.{IsRead, method_of}
+use Rattle.store.specs.Routes.{IsRead, method_of, headers_of}
 use Rattle.store.specs.Lists.{query_of}
-use Rattle.store.specs.Answered.{outcome, Lists, AnsweredList}
+use Rattle.store.specs.Answered.{outcome, is_bare, Lists, AnsweredList}
 use Rattle.store.proofs.Steps.{goes_by}
 use Rattle.store.proofs.lists.answer_list.Goals as goal
 
@@ -27,9 +27,13 @@ returns-clause-ok g c =
     let query : c.unwrap_or-query.result.now ≡ query_of request =
     ap (λ (b : Bor (List ℕ)). b.now) c.unwrap_or-query.ensures ∙ now_or c.query.result _
     ∙ ap (λ (o : Option (List ℕ)). unwrap_or o []) (c.query.ensures.value ∙ ap uri_query c.uri.ensures) in
-    goes_by old new (Lists o headers c.unwrap_or-query.result.now) (AnsweredList request o)
+    let bare : c.is_bare.result ≡ is_bare (method_of request) (headers_of request) =
+    c.is_bare.ensures ∙ (λ i. is_bare (c.method-2.ensures i) (c.headers.ensures i)) in
+    goes_by old new (Lists o c.is_bare.result headers c.unwrap_or-query.result.now) (AnsweredList request o)
     (λ p. inl (
       is,
-      subst (λ h. Lists o h (query_of request)) c.headers.ensures (subst (λ q. Lists o headers q) query p),
+      subst (λ v. Lists o v (headers_of request) (query_of request)) bare
+          (subst (λ h. Lists o c.is_bare.result h (query_of request)) c.headers.ensures
+          (subst (λ q. Lists o c.is_bare.result headers q) query p)),
     ))
     c.list.ensures

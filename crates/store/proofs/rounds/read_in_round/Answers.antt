@@ -20,7 +20,7 @@ returns-then-not-begun g c clean =
       λ begun m way.
           let (was, same) = was_outside begun m old way outside in
           let on = it.1 None was.0 in
-          let read = reads_map old new m was.1 headers key response on.1 in
+          let read = reads_map old new m was.1 headers key response c.args.is_bare on.1 in
           (read.0, inl ((on.0, read.2), read.1.0 ∙ same), λ _. read.1),
     )
 
@@ -36,7 +36,8 @@ returns g c clean =
       it.0,
       λ begun m way.
           let (base, s, is, sees) = was_inside begun m old way inside in
-          called begun base new (Reads (outcome old response new) headers key) (λ after. ReadsMap (outcome m response after) headers key)
+          called begun base new (Reads (outcome old response new) c.args.is_bare headers key)
+          (λ after. ReadsMap (outcome m response after) c.args.is_bare headers key)
           c.is_in_transaction.result is
-          (it.1 (Some base) s) (reads_map old new m sees headers key response) c.is_in_transaction.ensures.value,
+          (it.1 (Some base) s) (reads_map old new m sees headers key response c.args.is_bare) c.is_in_transaction.ensures.value,
     )
