@@ -14,6 +14,11 @@ int main(void)
                 free(text);
             text = more;
         }
+    /* What was read before an error may be JSON too, such as 12 of 123. */
+    if (ferror(stdin)) {
+        free(text);
+        return 4;
+    }
     /* The canonical text is never longer than the text. The call takes no null pointer, and malloc(0) may return one. */
     if (text && (out = malloc(len + 1))) {
         switch (miniserde_canonical(text, len, out, len, &written)) {

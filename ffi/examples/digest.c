@@ -1,5 +1,5 @@
-/* Prints the SHA-256 of the canonical text of standard input, as `canon | sha256sum` does: one digest for every spelling
- * of a document. Built by: gcc digest.c $(pkg-config --cflags --libs miniserde libcrypto) */
+/* Prints the SHA-256 of what `canon --unique` writes for standard input: one digest for every spelling of a document.
+ * Prints nothing if that fails or a read fails. Built by: gcc digest.c $(pkg-config --cflags --libs miniserde libcrypto) */
 #include <miniserde.h>
 #include <openssl/evp.h>
 #include <stdio.h>
@@ -25,10 +25,10 @@ int main(void)
     static char text[1 << 20];
     unsigned char digest[32];
     size_t len = fread(text, 1, sizeof text, stdin);
-    if (len == sizeof text || digest_of(text, len, digest) != MINISERDE_OK)
+    if (ferror(stdin) || len == sizeof text || digest_of(text, len, digest) != MINISERDE_OK)
         return 1;
     for (int at = 0; at < 32; at++)
         printf("%02x", digest[at]);
     puts("");
-    return 0;
+    return fflush(stdout) == 0 ? 0 : 1;
 }

@@ -5,13 +5,19 @@
  * in decimal, -0 as 0, and any other number keeps its text. No text of a document with the same canonical text is
  * shorter than that text. It is not RFC 8785 (JCS).
  *
- * What each function says here of its result is proved of its code, for the calls that this page allows: the clauses
- * are in share/doc/miniserde/contract.rt. Not proved are the code of malloc and memcpy, the compiler, and the caller.
+ * What each function says here of MINISERDE_OK, MINISERDE_INVALID, MINISERDE_ROOM and MINISERDE_DIFFERENT, of `out` and
+ * of `*written` is proved of its code, for the calls that this page allows: the clauses are in
+ * share/doc/miniserde/contract.rt. Only tested are that MINISERDE_MEMORY is returned only if an allocation failed, what a
+ * call allocates and frees, and the stack that it takes. Not proved are the code of malloc and memcpy, the compiler, and
+ * the caller.
+ *
+ * The library needs a processor with SSE4.2 (x86-64-v2), and does not ask whether it has one.
  *
  * What every call requires of its caller:
  *
- * - No pointer is null, also if the length beside it is 0. `text`, `a` and `b` point to that many initialized bytes,
- *   which need no zero behind them, and `out` to that many bytes. `*out` and `*written` may be uninitialized. No
+ * - No pointer is null, also if the length beside it is 0. An empty std::string_view, std::span or std::vector may have
+ *   a null pointer: pass "" instead. `text`, `a` and `b` point to that many initialized bytes, which need no zero behind
+ *   them, and `out` to that many bytes. `*out` and `*written` may be uninitialized. No
  *   length is above PTRDIFF_MAX.
  * - Until the call returns, no thread writes the bytes of `text`, `a` or `b`, and none reads or writes those of `out`
  *   and `*written`. `out`, `*written` and the texts do not overlap, except that `a` and `b` may.
@@ -72,8 +78,8 @@ _Static_assert(sizeof(miniserde_status) == 4, "miniserde_status has 32 bits");
  * zero behind it, and its length to `*written`. The bytes of `out` behind it stay as they were.
  *
  * An `out` as long as the text is long enough: then the status is never MINISERDE_ROOM.
- * With an `out_len` of 0 the status is MINISERDE_ROOM, and `*written` is the length of the canonical text alone: `out`
- * may be any pointer that is not null.
+ * With an `out_len` of 0 the status is never MINISERDE_OK. For a JSON text it is MINISERDE_ROOM, unless an allocation
+ * fails, and `*written` is the length of the canonical text: `out` may be any pointer that is not null.
  *
  * MINISERDE_INVALID  the bytes are not JSON in UTF-8. `*written` is 0.
  * MINISERDE_MEMORY   an allocation failed. `*written` is 0.
@@ -95,7 +101,8 @@ MINISERDE_CALL MINISERDE_ACCESS(read_only, 1, 2) MINISERDE_ACCESS(read_only, 3, 
 miniserde_status miniserde_equal(const char *a, size_t a_len, const char *b, size_t b_len);
 
 /* Returns MINISERDE_OK if the bytes are JSON in UTF-8, MINISERDE_INVALID if they are not, and MINISERDE_MEMORY if an
- * allocation failed. It allocates one bit for each level that the text nests, in words of 64, and nothing else. */
+ * allocation failed. It allocates 32 bytes for up to 256 levels of depth, and at most two bits a level beyond that
+ * (three while they grow). */
 MINISERDE_CALL MINISERDE_ACCESS(read_only, 1, 2)
 miniserde_status miniserde_is_json(const char *text, size_t text_len);
 

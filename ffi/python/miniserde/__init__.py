@@ -15,11 +15,13 @@ A text is `bytes`, `bytearray` or `memoryview` in UTF-8, or a `str`. A `str` wit
 threads may call at the same time, and other threads run during a call.
 
 The shared library is the file libminiserde.so beside this one, or else the system's libminiserde.so.0. The environment
-variable MINISERDE_LIBRARY names another.
+variable MINISERDE_LIBRARY names another, unless Python ignores the environment (`python3 -E` and `-I`). The library needs
+a processor with SSE4.2; without it the import raises `ImportError`.
 """
 import ctypes
 import json
 import os
+import sys
 from typing import Any, Callable, List, Optional, Union
 
 __all__ = ["Text", "canonical", "dumps", "equal", "is_json"]
@@ -30,9 +32,22 @@ Text = Union[str, bytes, bytearray, memoryview]
 _OK, _INVALID, _MEMORY, _ROOM, _DIFFERENT = range(5)
 
 
+def _require_sse42(cpuinfo: str = "/proc/cpuinfo") -> None:
+    """Raises `ImportError` if the processor lacks SSE4.2, which the library uses without asking. Does nothing if Linux does not say."""
+    try:
+        with open(cpuinfo, encoding="ascii", errors="replace") as file:
+            flags = next((line.split() for line in file if line.startswith("flags")), ["sse4_2"])
+    except OSError:
+        return
+    if "sse4_2" not in flags:
+        raise ImportError("libminiserde needs a processor with SSE4.2 (x86-64-v2)")
+
+
 def _load() -> ctypes.CDLL:
+    _require_sse42()
     beside = os.path.join(os.path.dirname(os.path.abspath(__file__)), "libminiserde.so")
-    path = os.environ.get("MINISERDE_LIBRARY") or (beside if os.path.exists(beside) else "libminiserde.so.0")
+    named = None if sys.flags.ignore_environment else os.environ.get("MINISERDE_LIBRARY")
+    path = named or (beside if os.path.exists(beside) else "libminiserde.so.0")
     # `CDLL`, and not `PyDLL`: it releases the interpreter's lock during each call.
     library = ctypes.CDLL(path)
     length, text, address = ctypes.c_size_t, ctypes.c_char_p, ctypes.c_void_p
@@ -72,13 +87,12 @@ _rooms: List[_Room] = []
 
 
 def _bytes_of(text: Text) -> bytes:
-    """Returns bytes that no other thread can change during a call."""
-    if isinstance(text, bytes):
-        return text
+    """Returns bytes that no other thread can change during a call. They are of the type `bytes` itself: a subclass could
+    give another length than it has."""
     if isinstance(text, str):
-        return text.encode()
-    if isinstance(text, (bytearray, memoryview)):
-        return bytes(text)
+        return str.encode(text)
+    if isinstance(text, (bytes, bytearray, memoryview)):
+        return bytes(memoryview(text))
     raise TypeError(f"a JSON text is str, bytes, bytearray or memoryview, not {type(text).__name__}")
 
 

@@ -12,7 +12,6 @@ import random
 import re
 import subprocess
 import sys
-import tempfile
 import threading
 import unittest
 
@@ -168,49 +167,6 @@ class Calls(unittest.TestCase):
 
     def test_the_docstring(self):
         self.assertEqual(doctest.testmod(miniserde).failed, 0)
-
-    def test_out_of_memory(self):
-        # In a process with little memory the text fits, and what it takes to arrange it does not.
-        code = ("import miniserde, resource\n"
-                "text = b'{\"b\":1,\"a\":[' + b'1,' * 20_000_000 + b'1]}'\n"
-                "size = int(open('/proc/self/statm').read().split()[0]) * 4096\n"
-                "resource.setrlimit(resource.RLIMIT_AS, (size + 60_000_000,) * 2)\n"
-                "try:\n    miniserde.canonical(text)\nexcept MemoryError:\n    print('memory')\n"
-                "print(miniserde.is_json(text))\n")
-        done = subprocess.run([sys.executable, "-c", code], stdout=subprocess.PIPE, text=True)
-        self.assertEqual(done.stdout, "memory\nTrue\n")
-
-
-class Command(unittest.TestCase):
-    def run_on(self, files, *words, text=b""):
-        """Runs the command in a folder with these files. Returns status, output and errors."""
-        with tempfile.TemporaryDirectory() as room:
-            for name, content in files.items():
-                pathlib.Path(room, name).write_bytes(content)
-            there = {**os.environ, "PYTHONPATH": os.path.dirname(os.path.dirname(os.path.abspath(miniserde.__file__)))}
-            done = subprocess.run([sys.executable, "-m", "miniserde", *words], cwd=room, env=there, input=text, capture_output=True)
-            return done.returncode, done.stdout, done.stderr.decode()
-
-    def test_it_writes_canonical_texts(self):
-        self.assertEqual(self.run_on({"a": b'{"b":1, "a":2}\n'}, "a"), (0, b'{"a":2,"b":1}', ""))
-        self.assertEqual(self.run_on({"a": b"[ ]", "b": b" 1"}, "a", "b"), (0, b"[]\n1", ""))
-        self.assertEqual(self.run_on({}, "-", text=b" null"), (0, b"null", ""))
-
-    def test_check_lists_files(self):
-        files = {"a": b"[]", "b": b"[]\n", "c": b"[", "d": b'{"a":1}'}
-        status, output, errors = self.run_on(files, "--check", *files)
-        self.assertEqual((status, output), (1, b"b\nc\n"))
-        self.assertIn("c: not a JSON text", errors)
-        self.assertEqual(self.run_on(files, "--check", "a", "d"), (0, b"", ""))
-
-    def test_what_goes_wrong(self):
-        status, output, errors = self.run_on({"a": b"[", "b": b"1"}, "a", "b")
-        self.assertEqual((status, output), (1, b"1"))
-        self.assertIn("a: not a JSON text", errors)
-        self.assertEqual(self.run_on({}, "none")[:2], (2, b""))
-        self.assertEqual(self.run_on({})[0], 2)
-        self.assertEqual(self.run_on({"a": b'{"a":1,"a":1}'}, "--unique", "a")[:2], (1, b""))
-        self.assertEqual(self.run_on({"a": b'{"a":1,"a":1}'}, "a")[:2], (0, b'{"a":1}'))
 
 
 class Memory(unittest.TestCase):
