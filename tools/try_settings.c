@@ -1,7 +1,7 @@
 /* Ends, stops or fails the program that it is loaded into (LD_PRELOAD) at one of its calls on files.
  *
- * The calls open, openat, write, fsync, fchmod, chmod, chown and rename are counted from 1, and AT is the number of the
- * chosen one. HOW=end ends the process there with status 99, HOW=half too, but a write has written half of its bytes;
+ * The calls open, openat, write, fsync, fchmod, chmod, fchown, chown and rename are counted from 1, and AT is the number of
+ * the chosen one. HOW=end ends the process there with status 99, HOW=half too, but a write has written half of its bytes;
  * HOW=stop stops the process until somebody continues it, and then makes the call; HOW=fail returns the error EIO.
  * HOW=list writes the name of each call as a line to descriptor 3, of openat as open. */
 #define _GNU_SOURCE
@@ -63,6 +63,10 @@ int fchmod(int file, mode_t mode) { return fails("fchmod") ? -1 : (int)syscall(S
 
 int chmod(const char *path, mode_t mode) {
     return fails("chmod") ? -1 : (int)syscall(SYS_fchmodat, AT_FDCWD, path, mode);
+}
+
+int fchown(int file, uid_t owner, gid_t group) {
+    return fails("fchown") ? -1 : (int)syscall(SYS_fchown, file, owner, group);
 }
 
 int chown(const char *path, uid_t owner, gid_t group) {

@@ -25,8 +25,9 @@ pub fn sent(alloc: Global, text: &str) -> Result<String>
 mod tests {
     use super::sent;
     use crate::parcel::Parcel;
+    use crate::stop::{End, Stop};
     use crate::task::Label;
-    use miniserde_core::json::from_str;
+    use miniserde_core::json::{Document, from_str};
     use miniserde_core::ser::Writer;
     use miniserde_core::{FromJson, Result, Serialize};
     use std::alloc::Global;
@@ -110,6 +111,25 @@ mod tests {
             is_written::<BTreeMap<u8, bool>>(rt.alloc(), "{\"9\":true,\"10\":false}", false)?
         );
         assert!(rt; is_written::<Parcel>(rt.alloc(), parcel, false)?);
+        Ok(())
+    }
+
+    // The same of a struct of several fields, alone and as the data of an enum, and of documents.
+    #[test]
+    fn structs_and_documents_are_known_to(rt: HostRuntime) -> Result<()> {
+        let document =
+            "{\"a\":[{\"b\":1,\"c\":{}},[]],\"d\":{\"e\":null,\"f\":\"\",\"g\":{\"h\":-1}}}";
+        let stop =
+            "{\"at\":7,\"before\":\"sent\",\"cost\":0,\"days\":[1,2],\"extra\":[{\"a\":0,\"b\":1}]}";
+        let noted =
+            "{\"at\":7,\"before\":\"sent\",\"cost\":0,\"days\":[],\"extra\":null,\"note\":\"x\"}";
+        let end =
+            "{\"At\":{\"at\":7,\"before\":\"sent\",\"cost\":0,\"days\":[],\"extra\":{\"a\":0,\"b\":1}}}";
+        assert!(rt; is_written::<Document>(rt.alloc(), document, true)?);
+        assert!(rt; is_written::<Document>(rt.alloc(), "[{},[],{\"\":{}}]", true)?);
+        assert!(rt; is_written::<Stop>(rt.alloc(), stop, true)?);
+        assert!(rt; is_written::<Stop>(rt.alloc(), noted, true)?);
+        assert!(rt; is_written::<End>(rt.alloc(), end, true)?);
         Ok(())
     }
 }

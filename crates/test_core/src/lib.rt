@@ -3,4 +3,5 @@
 
 pub mod calls;
 pub mod parcel;
+pub mod stop;
 pub mod task;

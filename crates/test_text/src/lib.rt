@@ -1,7 +1,9 @@
 //! Tests of what reads and writes without a type of one's own: the lexer, numbers that are kept as text, errors, keys of
-//! maps, values that are skipped, and the writer.
+//! maps, values that are skipped, the writer, and how often texts grow.
 #![tactic(auto)]
 
+#[cfg(test)]
+mod growth;
 #[cfg(test)]
 mod keys;
 #[cfg(test)]

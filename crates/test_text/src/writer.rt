@@ -20,7 +20,7 @@ fn fragment<'a>(word: &str, argument: &'a str) -> Option<Fragment<'a>> {
 }
 
 /// Makes the call of a writer that a word names, with the argument that stands behind `=`.
-fn call(w: &mut Writer, call: &str) -> Result<()> {
+pub fn call(w: &mut Writer, call: &str) -> Result<()> {
     let (word, argument) = call.split_once('=').unwrap_or((call, ""));
     if let Some(fragment) = fragment(word, argument) {
         return w.fragment(fragment);
