@@ -1,4 +1,6 @@
 """The server that `./new FOLDER store` makes, on a file, and its clients: what the trials over 127.0.0.1 share."""
+import os
+import pathlib
 import re
 import signal
 import socket
@@ -11,7 +13,9 @@ class Server:
     """The program on a file, at a port that the system picks."""
 
     def __init__(self, program, path, **words):
-        self.run = subprocess.Popen([program, path, "127.0.0.1:0"], stdout=subprocess.PIPE, stderr=subprocess.PIPE, text=True, **words)
+        """Starts it for requests to the host of the trials. `program` is its path, or a list of the words that start it."""
+        start = [program] if isinstance(program, (str, pathlib.Path)) else program
+        self.run = subprocess.Popen([*start, path, "127.0.0.1:0", "store.example"], stdout=subprocess.PIPE, stderr=subprocess.PIPE, text=True, **words)
         said = self.run.stdout.readline()
         found = re.fullmatch(r"listening on 127\.0\.0\.1:(\d+)\n", said)
         expect(found, f"the server says {said!r} and {'' if said else self.run.stderr.read()!r}")
@@ -24,11 +28,23 @@ class Server:
         self.run.kill()
         self.run.communicate()
 
-    def end(self, number=signal.SIGTERM):
-        """Ends the server by a signal, of which it dies."""
+    def end(self, number=signal.SIGTERM, said=""):
+        """Ends the server by a signal, of which it dies. `said` is a pattern of what it has written to standard error."""
         self.run.send_signal(number)
         rest, errors = self.run.communicate(timeout=20)
-        expect((self.run.returncode, rest, errors) == (-number, "", ""), f"after {number!r}: {self.run.returncode}, {rest!r}, {errors!r}")
+        expect((self.run.returncode, rest) == (-number, ""), f"after {number!r}: {self.run.returncode}, {rest!r}")
+        expect(re.fullmatch(said, errors), f"after {number!r}: {errors!r}")
+        return errors
+
+    def stat(self, name):
+        """Returns a number of kB of its status, as `VmHWM`."""
+        status = pathlib.Path(f"/proc/{self.run.pid}/status").read_text()
+        return int(re.search(rf"{name}:\s+(\d+)", status)[1])
+
+    def processor_time(self):
+        """Returns how many seconds of processor time it has taken."""
+        fields = pathlib.Path(f"/proc/{self.run.pid}/stat").read_text().rpartition(")")[2].split()
+        return (int(fields[11]) + int(fields[12])) / os.sysconf("SC_CLK_TCK")
 
 
 class Client:

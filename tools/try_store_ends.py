@@ -13,6 +13,10 @@ from store_net import Client, Server, shown
 from store_requests import HAS_SQLITE, Request, answer, expect, made_put, rows
 
 
+# What the server says of rounds that are not committed.
+LOST = r"(a round of \d+ connections is not committed, and they are closed\n)*"
+
+
 class Writer(threading.Thread):
     """A client that puts under keys of its own until its connection ends. `known` are their entries before."""
 
@@ -99,7 +103,7 @@ def ask_once(server, request):
 
 def full_disk(program, folder):
     """Puts until the disk is full: what was answered by success is there, and nothing of what was not committed."""
-    made, entries, refused = random.Random(7), {}, 0
+    made, entries, refused, lost = random.Random(7), {}, 0, 0
     with small_disk(folder) as (room, name, words, enlarge):
         path = f"{room}/full.db"
         with Server(program, path, **words) as server:
@@ -110,13 +114,15 @@ def full_disk(program, folder):
                 wanted, after = answer(entries, request)
                 expect(came in (wanted, (503, {}, ""), None), f"{name}: {came}")
                 entries, refused = (after, refused) if came == wanted else (entries, refused + 1)
+                lost += came is None
             keys = [f"k{number}" for number in range(90)]
             expect(shown(server.port, keys) == entries, f"what is shown at {name}")
             if enlarge:
                 enlarge()
                 wanted, entries = answer(entries, request)
                 expect(ask_once(server, request) == wanted, f"the last put again, after {name} got room")
-            server.end()
+            told = server.end(said=LOST).count("\n")
+            expect(told == lost, f"{name}: {lost} connections were closed without a response, and {told} rounds told")
         with Server(program, path) as server:
             expect(shown(server.port, keys) == entries, f"what is shown after {name}")
             server.end()

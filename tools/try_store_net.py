@@ -28,10 +28,11 @@ from concurrent.futures import ThreadPoolExecutor
 from store_net import Client, Server, shown
 from store_requests import HAS_SQLITE, KEYS, Request, Wrong, answer, expect, made_put, made_request, response_from, rows
 from try_store_ends import full_disk, killed, terminated
+from try_store_limits import idle_cost, large, memory_bound, stalled
 
 ROOT = pathlib.Path(__file__).resolve().parent.parent
 # What main.rt of the server says.
-CONNECTIONS, IDLE = 1000, 30
+CONNECTIONS, IDLE, MAX_BODY = 1000, 30, 65_536
 # A response to a fast client comes within so many seconds, whatever the slow ones do.
 BOUND = 0.5
 # Beside clients that send many puts at once: by them each turn may take some hundred syncs of the disk.
@@ -63,7 +64,7 @@ def each_status(program, folder):
         many = [(f"x{number}", "y") for number in range(100)]
         for status, *words in (
             (404, "GET", "/"), (404, "GET", "/entries/"), (404, "PUT", "/entry/nails", b"{}"), (404, "DELETE", "/entries/%ff"),
-            (413, "PUT", "/entries/nails", b" " * (2**20 + 1)), (400, "PUT", "/entries/nails", b" " * 2**20),
+            (413, "PUT", "/entries/nails", b" " * (MAX_BODY + 1)), (400, "PUT", "/entries/nails", b" " * MAX_BODY),
             (414, "GET", f"/entries/{'a' * 20_000}"), (431, "GET", "/entries/nails", b"", many), (431, "GET", "/entries/nails", b"", [("x", "y" * 20_000)]),
         ):
             came = by_curl(server.port, *words)
@@ -258,7 +259,7 @@ def too_many(program, folder):
             it.close()
         then = answered([it for it in clients if it not in first], beyond)
         expect(len(then) == beyond, f"{len(then)} connections of {beyond} are answered once others are closed")
-        memory = int(re.search(r"VmRSS:\s+(\d+)", pathlib.Path(f"/proc/{server.run.pid}/status").read_text())[1])
+        memory = server.stat("VmRSS")
         server.end()
     return f"{len(clients)} connections: {len(first)} answered, and {len(then)} more once as many were closed; {memory / 1000:.0f} MB"
 
@@ -278,30 +279,42 @@ def shown_on_page(program, folder):
 
 def refused_starts(program, folder):
     """Starts the server where it cannot run: each time it says why, and no file changes."""
-    def start(*words):
-        ran = subprocess.run([program, *words], capture_output=True, text=True, timeout=20)
-        return ran.returncode, ran.stdout, ran.stderr
+    def start(*words, **how):
+        ran = subprocess.run([program, *words], stdout=how.pop("stdout", subprocess.PIPE), stderr=subprocess.PIPE, timeout=20, **how)
+        return ran.returncode, (ran.stdout or b"").decode(), os.fsdecode(ran.stderr)
     path, other = f"{folder}/two.db", f"{folder}/other.db"
     with Server(program, path) as server:
-        expect(start(path, "127.0.0.1:0") == (1, "", f"{path} cannot be opened\n"), "a second server on a file")
-        status, said, _ = start(f"{folder}/three.db", f"127.0.0.1:{server.port}")
-        expect((status, said) == (3, ""), "a second server on a port")
+        expect(start(path, "127.0.0.1:0") == (1, "", f"{path} cannot be opened: database is locked\n"), "a second server on a file")
+        address = f"127.0.0.1:{server.port}"
+        status, said, errors = start(f"{folder}/three.db", address)
+        expect((status, said) == (3, "") and errors.startswith(f"cannot listen on {address}: "), f"a second server on a port: {errors}")
         expect(shown(server.port, KEYS) == {}, "the first server")
         server.end()
-    for words in ((), (path, "nowhere"), (path, "127.0.0.1")):
+    for words in ((), (path, "nowhere"), (path, "127.0.0.1"), (path, "127.0.0.1:0", "--tls"), (path, "--port", "80"), ("--help",)):
         status, said, errors = start(*words)
-        expect((status, said) == (2, "") and errors.startswith("usage: "), f"the words {words}")
-    expect(start(f"{folder}/none/a.db") == (1, "", f"{folder}/none/a.db cannot be opened\n"), "a folder that is not there")
+        expect((status, said) == (2, "") and errors.startswith("usage: "), f"the words {words}: {status}, {errors}")
+    status, said, errors = start(b"\xff.db", "127.0.0.1:0", cwd=folder)
+    expect((status, said) == (3, "") and errors.startswith("server: "), f"a path that is not UTF-8: {errors}")
+    with open("/dev/full", "wb") as full:
+        status, _, errors = start(path, "127.0.0.1:0", stdout=full)
+    expect(status == 3 and errors.startswith("server: "), f"an output that takes nothing: {status}, {errors}")
+    status, said, errors = start(f"{folder}/none/a.db")
+    expect((status, said) == (1, "") and errors.startswith(f"{folder}/none/a.db cannot be opened: "), f"a folder that is not there: {errors}")
+    os.link(path, f"{folder}/second-name.db")
+    status, said, errors = start(path, "127.0.0.1:0")
+    expect((status, said) == (1, "") and errors.startswith(f"{path} cannot be opened: "), f"a file with a second name: {errors}")
     if HAS_SQLITE:
         subprocess.run(["sqlite3", other, "CREATE TABLE entry (key TEXT, body TEXT)"], check=True)
         before = pathlib.Path(other).read_bytes()
-        status, said, errors = start(other, "127.0.0.1:0")
-        expect((status, said) == (1, "") and errors.startswith(other), "a file with another table")
+        expect(start(other, "127.0.0.1:0") == (1, "", f"{other} has other tables\n"), "a file with another table")
         expect(pathlib.Path(other).read_bytes() == before, "a file with another table is changed")
-    return "a second server on a file, one on a port, wrong words, no folder, another table: refused"
+    return "a second server on a file, one on a port, wrong words, a path that is not UTF-8, a full output, no folder, a second name, another table: refused"
 
 
-TRIALS = (shown_on_page, each_status, pieces, at_once, slow_clients, flood, too_many, killed, terminated, full_disk, refused_starts)
+TRIALS = (
+    shown_on_page, each_status, pieces, large, at_once, slow_clients, idle_cost, flood, stalled, too_many, memory_bound, killed, terminated, full_disk,
+    refused_starts,
+)
 
 
 def made_program(folder):

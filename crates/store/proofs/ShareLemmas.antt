@@ -8,6 +8,7 @@ use Rattle.sqlite_trees.specs.declared.store.Store.{Ghosts}
 use Rattle.sqlite.specs.Held.{Held, state}
 use Rattle.sqlite.specs.State.{State, HasCleanDisk}
 use Rattle.turns.specs.declared.peers.Peer.{Peer}
+use Rattle.turns.specs.declared.settled.RoundResult.{RoundResult}
 use Rattle.turns.specs.Shared.{Turns, all_calls}
 use Rattle.turns.specs.Settled.{IsSettled}
 use Rattle.store.specs.Answered.{Codec, outcome}
@@ -71,42 +72,48 @@ module _ {V : Type 0} (hosts : List (List ℕ)) (of : Codec V) where
 module _ {S : Type 0} (g : Ghosts S) {V T : Type 0} (of : Codec V) (remaining contents : T → Option (List ℕ))
     (keys : List ℕ) (old new : Round S) (before after : ℕ → Option (Peer T)) (turns : Turns) where
   -- what a round is to the service, and to the map
-  abbrev pub Settled : Bool → Type 0
-  Settled kept = IsSettled (answers g of) (settles g) remaining contents keys old new before after turns kept
+  abbrev pub Settled : RoundResult → Type 0
+  Settled result = IsSettled (answers g of) (settles g) remaining contents keys old new before after turns result
 
-  abbrev pub SettledMap : Map → Map → Bool → Type 0
-  SettledMap m last kept =
-      IsSettled (AnsweredIf old.2 of kept) (LeavesMap m) remaining contents keys m last before after turns kept
+  abbrev pub SettledMap : Map → Map → RoundResult → Type 0
+  SettledMap m last result =
+      IsSettled (AnsweredIf old.2 of result.stands) (LeavesMap m) remaining contents keys m last before after turns result
 
   -- the round of the service, with the maps in place of its states
-  over_map : (kept : Bool) (m called : Map) (it : Settled kept) → Chain (AnsweredIf old.2 of kept) m (all_calls turns) called
-      → SettledMap m (if kept then called else m) kept
-  over_map kept m called it calls = record {
+  over_map : (result : RoundResult) (m called last : Map) (it : Settled result)
+      → Chain (AnsweredIf old.2 of result.stands) m (all_calls turns) called → LeavesMap m called result.stands last → SettledMap m last result
+  over_map result m called last it calls leaves = record {
     called = called;
     heard = it.heard;
     shared = record { calls = calls; each = it.shared.each };
-    rests = it.rests;
-    received = it.received;
-    settled = refl;
-    sent = it.sent;
     among = it.among;
-    gone = it.gone;
-    others = it.others;
+    settled = leaves;
+    round = it.round;
   }
 
-  pub round_of_map : (kept : Bool) → Settled kept → HasCleanDisk (state g new.0) → (m : Map) → IsBetween m (state g old.0) old.1
-      → (last : Map) × SettledMap m last kept × IsBetween last (state g new.0) new.1
-      × (IsTrue kept → IsTrue new.1 × (IsTrue (state g new.0).is_open ⊎ (last ≡ m)))
-  round_of_map true it clean m ready =
-      let settled = it.settled.1 clean in
-      let way = answered_in_round g of old.2 (all_calls turns) old it.called m m refl it.shared.calls settled.0
-      (starts m (state g old.0) old.1 ready) in
-      let end = settled.1 m way.0 way.1 in
-      let stood = end.1 refl in
-      (way.0, over_map true m way.0 it (answered_if old.2 of (all_calls turns) m way.0 (way.2 stood.0).1), end.0, λ _. (stood.1, stood.2))
-  round_of_map false it clean m ready =
-      let settled = it.settled.1 clean in
-      let way = answered_in_round g of old.2 (all_calls turns) old it.called m m refl it.shared.calls settled.0
-      (starts m (state g old.0) old.1 ready) in
-      let end = settled.1 m way.0 way.1 in
-      (m, over_map false m m it (unanswered old.2 of (all_calls turns) m), end.0, λ no. absurd (true≢false (sym no)))
+  pub round_of_map : (result : RoundResult) → Settled result → HasCleanDisk (state g new.0) → (m : Map)
+      → IsBetween m (state g old.0) old.1
+      → (last : Map) × SettledMap m last result × IsBetween last (state g new.0) new.1
+      × (IsTrue result.stands → IsTrue new.1 × (IsTrue (state g new.0).is_open ⊎ (last ≡ m)))
+  round_of_map result it clean m ready = by result.stands refl
+    where
+      by : (kept : Bool) → result.stands ≡ kept → (last : Map) × SettledMap m last result × IsBetween last (state g new.0) new.1
+          × (IsTrue result.stands → IsTrue new.1 × (IsTrue (state g new.0).is_open ⊎ (last ≡ m)))
+      by true e =
+          let settled = (subst (λ v. settles g it.called v new) e it.settled).1 clean in
+          let way = answered_in_round g of old.2 (all_calls turns) old it.called m m refl it.shared.calls settled.0
+          (starts m (state g old.0) old.1 ready) in
+          let end = settled.1 m way.0 way.1 in
+          let stood = end.1 refl in
+          let calls = subst (λ v. Chain (AnsweredIf old.2 of v) m (all_calls turns) way.0) (sym e)
+          (answered_if old.2 of (all_calls turns) m way.0 (way.2 stood.0).1) in
+          let leaves = subst (λ v. LeavesMap m way.0 v way.0) (sym e) refl in
+          (way.0, over_map result m way.0 way.0 it calls leaves, end.0, λ _. (stood.1, stood.2))
+      by false e =
+          let settled = (subst (λ v. settles g it.called v new) e it.settled).1 clean in
+          let way = answered_in_round g of old.2 (all_calls turns) old it.called m m refl it.shared.calls settled.0
+          (starts m (state g old.0) old.1 ready) in
+          let end = settled.1 m way.0 way.1 in
+          let calls = subst (λ v. Chain (AnsweredIf old.2 of v) m (all_calls turns) m) (sym e) (unanswered old.2 of (all_calls turns) m) in
+          let leaves = subst (λ v. LeavesMap m m v m) (sym e) refl in
+          (m, over_map result m m m it calls leaves, end.0, λ yes. absurd (true≢false (sym yes ∙ e)))

@@ -17,7 +17,7 @@ use http::{HeaderMap, Request, StatusCode};
 use http_server::{Response, Settle};
 use miniserde::{Lossless, Stable};
 use rows::texts;
-use sqlite::{Alter, Connection};
+use sqlite::{Alter, Connection, Error, ErrorCode};
 use std::alloc::{AllocError, Global};
 use std::marker::{Model, PhantomData};
 
@@ -194,6 +194,20 @@ impl<S: Alter, V: Stable + Lossless, E: Explain<V>> RoundService<S, V, E> {
             stands: true,
             hosts,
             of: PhantomData,
+        }
+    }
+
+    /// Returns whether the database is open. It is shut if a write or a sync of its file failed, and then each response is 503
+    /// until it is opened again. If a transaction is still to be rolled back, it returns true.
+    pub fn is_open(&mut self) -> bool
+        ensures clean { HasCleanDisk (state S.Store self.new.0) → HasCleanDisk (state S.Store self.old.0) }
+    {
+        if !self.stands {
+            return true;
+        }
+        match texts::has(&mut self.conn, "") {
+            Err(Error::SqliteFailure(ErrorCode::Closed)) => false,
+            _ => true,
         }
     }
 

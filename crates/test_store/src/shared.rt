@@ -1,4 +1,4 @@
-//! Connections that share a store, each turn by itself and a round in one commit.
+//! Connections that share a store, whose changes in a round are one commit.
 
 use crate::served::{hosts, store_of};
 use crate::wires::{Client, WAITING, Wire, seated};
@@ -8,7 +8,7 @@ use sqlite::{Alter, Connection};
 use std::test::Fail;
 use std::time::Instant;
 use store::rounds::RoundService;
-use store::shared::{serve_round, serve_settled_round};
+use store::shared::serve_settled_round;
 use turns::peers::Peer;
 
 // One puts an entry, one asks for it, and one for the list.
@@ -40,16 +40,6 @@ fn are_read(peers: &Slab<Peer<Wire>>) -> bool {
     ends_with(peers, 1, b"\r\n\r\n\"nails\"") && ends_with(peers, 2, b"\r\n\r\n{\"a\":\"nails\"}")
 }
 
-// Returns whether the readers have their responses after a round of turns.
-fn are_served<S: Alter + Drop>(rt: &HostRuntime, conn: Connection<S>) -> Result<bool, Fail> {
-    let now = Instant::now(rt)?;
-    let mut peers = seated(rt, CLIENTS, now)?;
-    let mut service = store_of(rt, conn)?;
-    let mut unfinished = Vec::new(rt.alloc());
-    serve_round(&mut peers, &[0, 1, 2], &mut service, now, &mut unfinished)?;
-    Ok(unfinished.is_empty() & are_read(&peers))
-}
-
 // Returns whether the readers have their responses after a round in one commit.
 fn are_settled<S: Alter>(
     rt: &HostRuntime,
@@ -57,10 +47,9 @@ fn are_settled<S: Alter>(
 ) -> Result<bool, Fail> {
     let now = Instant::now(rt)?;
     let mut peers = seated(rt, CLIENTS, now)?;
-    let mut unfinished = Vec::new(rt.alloc());
     let keys = [0, 1, 2];
-    let stands = serve_settled_round(rt.alloc(), &mut peers, &keys, service, now, &mut unfinished)?;
-    Ok(stands & unfinished.is_empty() & are_read(&peers))
+    let it = serve_settled_round(rt.alloc(), &mut peers, &keys, service, now, usize::MAX)?;
+    Ok(it.stands & (it.heard == 3) & it.unfinished.is_empty() & are_read(&peers))
 }
 
 // Returns whether the readers have their responses, and the entry is committed.
@@ -75,7 +64,6 @@ fn are_committed<S: Alter + Drop>(rt: &HostRuntime, conn: Connection<S>) -> Resu
 
 #[test]
 fn connections_share_the_entries(rt: HostRuntime) -> Result<(), Fail> {
-    assert!(rt; are_served(&rt, Connection::open_in_memory(rt.alloc())?)?);
     assert!(rt; are_committed(&rt, Connection::open_in_memory(rt.alloc())?)?);
     Ok(())
 }

@@ -19,6 +19,10 @@ pub struct Client {
     pub behind: Option<ErrorKind>,
     /// A write returns this error in place of taking the bytes.
     pub blocked: Option<ErrorKind>,
+    /// A write takes at most this many bytes.
+    pub takes: usize,
+    /// While more bytes than this wait to be sent, its next request waits.
+    pub max_pending: usize,
 }
 
 /// A client that has sent nothing, and waits.
@@ -27,6 +31,8 @@ pub const WAITING: Client = Client {
     most: 1000,
     behind: Some(ErrorKind::WouldBlock),
     blocked: None,
+    takes: usize::MAX,
+    max_pending: 65_536,
 };
 
 /// The stream of a client, with what was not read yet and what was written.
@@ -57,8 +63,9 @@ impl Write for Wire {
         if let Some(kind) = self.client.blocked {
             return Err(kind.into());
         }
-        self.output.extend_from_slice(buf)?;
-        Ok(buf.len())
+        let count = buf.len().min(self.client.takes);
+        self.output.extend_from_slice(&buf[..count])?;
+        Ok(count)
     }
 
     fn flush(&mut self) -> io::Result<()> {
@@ -66,18 +73,20 @@ impl Write for Wire {
     }
 }
 
-/// Returns the stream of a client.
-pub fn stream_of(rt: &HostRuntime, client: Client) -> Wire {
+// Returns the stream of a client.
+fn stream_of(rt: &HostRuntime, client: Client) -> Wire {
     Wire {
         client,
         output: Vec::new(rt.alloc()),
     }
 }
 
-/// Returns a connection that has read nothing.
-pub fn connection(rt: &HostRuntime) -> Result<Connection, Fail> {
+// Returns a connection that has read nothing.
+fn connection(rt: &HostRuntime, max_pending: usize) -> Result<Connection, Fail> {
     let keys = RandomState::new(rt)?;
-    Ok(Connection::new(rt.alloc(), keys, Config::default()))
+    let mut config = Config::default();
+    config.max_pending = max_pending;
+    Ok(Connection::new(rt.alloc(), keys, config))
 }
 
 /// Returns connections of these clients, which came at this time, under the keys 0, 1 and so on.
@@ -88,13 +97,8 @@ pub fn seated(
 ) -> Result<Slab<Peer<Wire>>, Fail> {
     let mut peers = Slab::new(rt.alloc());
     for client in clients {
-        let connection = connection(rt)?;
-        let stream = stream_of(rt, *client);
-        peers.insert(Peer {
-            connection,
-            stream,
-            since,
-        })?;
+        let connection = connection(rt, client.max_pending)?;
+        peers.insert(Peer::new(connection, stream_of(rt, *client), since))?;
     }
     Ok(peers)
 }

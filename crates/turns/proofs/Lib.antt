@@ -1,2 +1,3 @@
 mod SharedLemmas
 mod SettledLemmas
+mod ProgressLemmas

@@ -4,7 +4,6 @@ use Rattle.std.proofs.Common.{◌≢◌, ◌<◌, ◌+◌, min, take, subst, ref
 use Rattle.std.proofs.lemmas.List.{append_cancel_left, nil_from_length, length-append, length-take}
 use Rattle.std.specs.Io.KnownBytes.{Appends, Consumes}
 use Rattle.std.proofs.lemmas.Bool.Decides.{nat_tests}
-use Rattle.std.specs.List.{AllByRecursion}
 use Rattle.http.specs.declared.request.Request.{Request}
 use Rattle.http_server.specs.declared.response.Response.{Response}
 use Rattle.http_server.specs.Connection.{history}
@@ -120,6 +119,11 @@ module _ {T : Type 0} (known : T → Option (List ℕ)) where
     output = refl;
     sent = ([], sym (append-nil (history peer.connection).sent), appends_none (known peer.stream));
     since = λ _. refl;
+    received = refl;
+    ended = refl;
+    state = refl;
+    config = refl;
+    more = refl;
   }
 
   pub spoken_then : (a b c : Peer T) → IsSpoken known a b → IsSpoken known b c → IsSpoken known a c
@@ -136,6 +140,11 @@ module _ {T : Type 0} (known : T → Option (List ℕ)) where
         (sym (ap (λ (l : List ℕ). l ++ y.sent.0) x.sent.1) ∙ sym y.sent.1 ∙ none) in
         y.since (y.sent.1 ∙ ap (λ (l : List ℕ). (history b.connection).sent ++ l) no.1 ∙ append-nil (history b.connection).sent)
         ∙ x.since (x.sent.1 ∙ ap (λ (l : List ℕ). (history a.connection).sent ++ l) no.0 ∙ append-nil (history a.connection).sent);
+    received = y.received ∙ x.received;
+    ended = y.ended ∙ x.ended;
+    state = y.state ∙ x.state;
+    config = y.config ∙ x.config;
+    more = y.more ∙ x.more;
   }
 
 -- connections that are as they were have said nothing
@@ -160,17 +169,13 @@ among_then key done s t a b other apart =
     at_append other s t ∙ ap (λ (l : List Call). l ++ calls_at other t) (a other it.0)
     ∙ b other (λ same. it.1 (sym same))
 
--- the connections of these keys are gone, and then that of one more key
-pub gone_then : {T : Type 0} (p q : ℕ → Option (Peer T)) (key : ℕ) (done : List ℕ) → q key ≡ None
-    → ((other : ℕ) → (other ≡ key → ⊥) → q other ≡ p other) → AllByRecursion (λ k. p k ≡ None) done
-    → AllByRecursion (λ k. q k ≡ None) (done ++ key ∷ [])
-gone_then p q key [] own others gone = (own, tt)
-gone_then {T} p q key (k ∷ done) own others (first, rest) = (by (k == key) refl, gone_then p q key done own others rest)
+-- a connection that was not there is not there
+pub still_none : {T : Type 0} (Became : Peer T → Peer T → Type 0) (p q : ℕ → Option (Peer T)) → Each Became p q → (key : ℕ)
+    → p key ≡ None → q key ≡ None
+still_none {T} Became p q each key none = by (q key) refl
   where
-    by : (v : Bool) → (k == key) ≡ v → q k ≡ None
-    by true e =
-        let same : k ≡ key = grind (arith, nat_tests) in
-        ap q same ∙ own
-    by false e =
-        let apart : k ≡ key → ⊥ = λ same. grind (arith, nat_tests) in
-        others k apart ∙ first
+    by : (entry : Option (Peer T)) → q key ≡ entry → q key ≡ None
+    by None e = e
+    by (Some peer) e =
+        let it = each key peer e in
+        absurd (true≢false (sym (ap is_some (sym none ∙ it.1))))

@@ -1,5 +1,6 @@
 -- Turns after turns.
-use Rattle.std.proofs.Common.{◌≡◌, ℕ, ◌==◌, List, [], ◌∷◌, ◌++◌, if◌then◌else◌, Bool, true, false, Option, Some, None, is_some}
+use Rattle.std.proofs.Common.{◌≡◌, ◌⊎◌, inl, inr, ℕ, ◌==◌, List, [], ◌∷◌, ◌++◌}
+use Rattle.std.proofs.Common.{if◌then◌else◌, Bool, true, false, Option, Some, None, is_some}
 use Rattle.std.proofs.Common.{refl, sym, ap, subst, ◌∙◌, append_assoc, append-nil, true≢false, arith}
 use Rattle.std.proofs.lemmas.Bool.Decides.{nat_tests}
 use Rattle.http.specs.declared.request.Request.{Request}
@@ -11,7 +12,7 @@ use Rattle.http_server.specs.History.{IsServed, Rests}
 use Rattle.http_server.proofs.StreamLemmas.{Chain-append}
 use Rattle.turns.specs.declared.peers.Peer.{Peer}
 use Rattle.std.specs.List.{AllByRecursion}
-use Rattle.turns.specs.Shared.{Turns, all_calls, calls_at, IsShared, IsCaughtUp, IsAtRest, OthersStay}
+use Rattle.turns.specs.Shared.{Turns, all_calls, calls_at, IsShared, IsCaughtUp, IsNotAmong, OthersStay}
 
 all_append : (s t : Turns) → all_calls (s ++ t) ≡ all_calls s ++ all_calls t
 all_append [] t = refl
@@ -126,18 +127,66 @@ same_caught_up a b config same up =
 pub one_peer : {P : Type 0} {a b : P} → ◌≡◌ {A = Option P} (Some a) (Some b) → a ≡ b
 one_peer e = cc
 
--- the connections of these keys rest, and then that of one more key has its turn
-pub rest_then : {T : Type 0} (p q : ℕ → Option (Peer T)) (key : ℕ) (done : List ℕ) → IsAtRest (q key)
-    → ((other : ℕ) → (other ≡ key → ⊥) → q other ≡ p other) → AllByRecursion (λ k. IsAtRest (p k)) done
-    → AllByRecursion (λ k. IsAtRest (q k)) (done ++ key ∷ [])
-rest_then p q key [] own others rest = (own, tt)
-rest_then {T} p q key (k ∷ done) own others (first, rest) =
-    (by (k == key) refl, rest_then p q key done own others rest)
+-- what holds of these keys, and then of one more, where only that of the last may have changed
+pub all_then : (P Q : ℕ → Type 0) (key : ℕ) (done : List ℕ) → Q key → ((k : ℕ) → (k ≡ key → ⊥) → P k → Q k) → AllByRecursion P done
+    → AllByRecursion Q (done ++ key ∷ [])
+all_then P Q key [] own others all = (own, tt)
+all_then P Q key (k ∷ done) own others (first, rest) = (by (k == key) refl, all_then P Q key done own others rest)
   where
-    by : (v : Bool) → (k == key) ≡ v → IsAtRest (q k)
+    by : (v : Bool) → (k == key) ≡ v → Q k
     by true e =
         let same : k ≡ key = grind (arith, nat_tests) in
-        subst (λ n. IsAtRest (q n)) (sym same) own
+        subst Q (sym same) own
     by false e =
         let apart : k ≡ key → ⊥ = λ same. grind (arith, nat_tests) in
-        subst IsAtRest (sym (others k apart)) first
+        others k apart first
+
+-- of what the entries of these keys are, each is so too after a step of one more key alone
+pub entries_then : {T : Type 0} (P : Option (Peer T) → Type 0) (p q : ℕ → Option (Peer T)) (key : ℕ) (done : List ℕ) → P (q key)
+    → ((other : ℕ) → (other ≡ key → ⊥) → q other ≡ p other) → AllByRecursion (λ k. P (p k)) done
+    → AllByRecursion (λ k. P (q k)) (done ++ key ∷ [])
+entries_then P p q key done own others all =
+    all_then (λ k. P (p k)) (λ k. P (q k)) key done own (λ k apart had. subst P (sym (others k apart)) had) all
+
+module _ (P : ℕ → Type 0) where
+  -- what holds of all keys holds of the first ones, and of each
+  pub all_left : (xs ys : List ℕ) → AllByRecursion P (xs ++ ys) → AllByRecursion P xs
+  all_left [] ys all = tt
+  all_left (x ∷ xs) ys (first, rest) = (first, all_left xs ys rest)
+
+  pub all_right : (xs ys : List ℕ) → AllByRecursion P (xs ++ ys) → AllByRecursion P ys
+  all_right [] ys all = all
+  all_right (x ∷ xs) ys (first, rest) = all_right xs ys rest
+
+  pub all_both : (xs ys : List ℕ) → AllByRecursion P xs → AllByRecursion P ys → AllByRecursion P (xs ++ ys)
+  all_both [] ys all later = later
+  all_both (x ∷ xs) ys (first, rest) later = (first, all_both xs ys rest later)
+
+pub all_map : (P Q : ℕ → Type 0) (xs : List ℕ) → ((k : ℕ) → P k → Q k) → AllByRecursion P xs → AllByRecursion Q xs
+all_map P Q [] f all = tt
+all_map P Q (x ∷ xs) f (first, rest) = (f x first, all_map P Q xs f rest)
+
+-- what holds of these keys holds of a key, or the key is not one of them
+pub found_or_apart : (P : ℕ → Type 0) (key : ℕ) (keys : List ℕ) → AllByRecursion P keys → P key ⊎ IsNotAmong keys key
+found_or_apart P key [] all = inr tt
+found_or_apart P key (k ∷ keys) (first, rest) = by (found_or_apart P key keys rest) (k == key) refl
+  where
+    by : P key ⊎ IsNotAmong keys key → (v : Bool) → (k == key) ≡ v → P key ⊎ IsNotAmong (k ∷ keys) key
+    by later true e =
+        let same : k ≡ key = grind (arith, nat_tests) in
+        inl (subst P same first)
+    by later false e =
+        let apart : k ≡ key → ⊥ = λ same. grind (arith, nat_tests) in
+        elim later [
+          | inl own ↦ inl own
+          | inr others ↦ inr (apart, others)
+        ]
+
+-- the entries of these keys, and of others that have not changed
+pub entries_also : {T : Type 0} (P : Option (Peer T) → Type 0) (p q : ℕ → Option (Peer T)) (keys : List ℕ) → OthersStay keys p q
+    → AllByRecursion (λ k. P (q k)) keys → (key : ℕ) → P (p key) → P (q key)
+entries_also P p q keys others all key had =
+    elim (found_or_apart (λ k. P (q k)) key keys all) [
+      | inl own ↦ own
+      | inr apart ↦ subst P (sym (others key apart)) had
+    ]

@@ -1,6 +1,6 @@
 -- Connections that share one service.
 use Rattle.std.specs.List.{AllByRecursion}
-use Rattle.std.specs.Prelude.{◌≡◌, ℕ, ◌==◌, Bool, false, List, [], ◌++◌, flat_map, if◌then◌else◌, Option, Some, IfSome}
+use Rattle.std.specs.Prelude.{◌≡◌, ℕ, ◌==◌, Bool, true, false, List, [], ◌++◌, flat_map, if◌then◌else◌, Option, Some, IfSome}
 use Rattle.http.specs.declared.request.Request.{Request}
 use Rattle.http_server.specs.declared.response.Response.{Response}
 use Rattle.http_server.specs.declared.connection.Connection.{Connection}
@@ -41,12 +41,21 @@ IsCaughtUp connection = ∥ IsServed (config_of connection) (history connection)
 abbrev pub IsAtRest : {T : Type 0} → Option (Peer T) → Type 0
 IsAtRest entry = IfSome entry (λ peer. IsCaughtUp peer.connection)
 
+-- the key is not one of these
+abbrev pub IsNotAmong : List ℕ → ℕ → Type 0
+IsNotAmong keys other = AllByRecursion (λ key. key ≡ other → ⊥) keys
+
 -- the connections of no key but these have changed
 abbrev pub OthersStay : {T : Type 0} → List ℕ → (ℕ → Option (Peer T)) → (ℕ → Option (Peer T)) → Type 0
-OthersStay keys before after = (other : ℕ) → AllByRecursion (λ key. key ≡ other → ⊥) keys → after other ≡ before other
+OthersStay keys before after = (other : ℕ) → IsNotAmong keys other → after other ≡ before other
 
 -- the turn wrote a part of a response
 abbrev pub has_written : Turn → Bool
 has_written (Waits wrote) = wrote
 has_written (More wrote) = wrote
 has_written Done = false
+
+-- there may be more to do, in another turn
+abbrev pub has_more : Turn → Bool
+has_more (More wrote) = true
+has_more _ = false

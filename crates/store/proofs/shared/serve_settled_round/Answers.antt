@@ -22,12 +22,12 @@ returns-clause-settled g c =
     let before = get c.args.peers.now in
     let after = get call.new.peers in
     result_by call.result
-    (λ kept. (turns : Turns) × Settled g.S.Store of remaining contents c.args.keys.now old new before after turns kept)
-    (λ kept. HasCleanDisk (state g.S.Store new.0) → (m : Map) → IsBetween m (state g.S.Store old.0) old.1 → (turns : Turns) × (last : Map)
-    × SettledMap g.S.Store of remaining contents c.args.keys.now old new before after turns m last kept
+    (λ end. (turns : Turns) × Settled g.S.Store of remaining contents c.args.keys.now old new before after turns end)
+    (λ end. HasCleanDisk (state g.S.Store new.0) → (m : Map) → IsBetween m (state g.S.Store old.0) old.1 → (turns : Turns) × (last : Map)
+    × SettledMap g.S.Store of remaining contents c.args.keys.now old new before after turns m last end
     × IsBetween last (state g.S.Store new.0) new.1
-    × (IsTrue kept → IsTrue new.1 × (IsTrue (state g.S.Store new.0).is_open ⊎ (last ≡ m))))
+    × (IsTrue end.stands → IsTrue new.1 × (IsTrue (state g.S.Store new.0).is_open ⊎ (last ≡ m))))
     call.ensures.settled
-    (λ kept it clean m ready.
-    let round = round_of_map g.S.Store of remaining contents c.args.keys.now old new before after it.0 kept it.1 clean m ready in
+    (λ end it clean m ready.
+    let round = round_of_map g.S.Store of remaining contents c.args.keys.now old new before after it.0 end it.1 clean m ready in
     (it.0, round.0, round.1, round.2, round.3))

@@ -1,4 +1,5 @@
--- A step that fails leaves the history, so the connection is still caught up. What a step called comes after what was called before.
+-- A step that fails leaves the history, so the connection is still caught up, and wants to read as before. What a step called comes
+-- after what was called before.
 use Rattle.std.proofs.Common.{◌++◌, List, refl, ap, ◌∙◌}
 use Rattle.http_server.specs.Exchange.{Call}
 use Rattle.http_server.specs.History.{History}
@@ -15,7 +16,7 @@ pub loop-preserved : goal.loop-preserved
 loop-preserved g c =
     let ok = c.in_default.ensures.ok in
     let called = ap (λ (h : History). h.calls) ok.3 in
-    let next = c.advance-in-loop.ensures in
+    let next = c.advance-made-in-loop.ensures in
     let more = next.calls.0 in (
       Calls-then g.S.Settle.answers _ _ _ _ _ _ c.loop.invariant.0
           (more, next.calls.1 ∙ ap (λ (l : List Call). l ++ more) called, next.calls.2),

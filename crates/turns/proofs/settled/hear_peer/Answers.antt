@@ -1,10 +1,12 @@
 -- The connection is taken out, is heard, and goes back under its key unless its stream failed.
-use Rattle.std.proofs.Common.{◌≡◌, Some, is_some, sym, ap, subst, ◌∙◌, true≢false, [], ◌∷◌}
+use Rattle.std.proofs.Common.{◌≡◌, ◌≢◌, is_some, rules, sym, ap, subst, ◌∙◌, true≢false, [], ◌∷◌}
 use Rattle.slab.specs.Slab.{get}
 use Rattle.http_server.specs.Connection.{history}
 use Rattle.turns.specs.Shared.{IsAtRest}
-use Rattle.turns.specs.Settled.{IsHeard}
+use Rattle.turns.specs.declared.turn.Turn.TheVariants.{Done}
+use Rattle.turns.specs.Settled.{IsHeard, AwaitsUnlessNoted}
 use Rattle.turns.proofs.SharedLemmas.{shared_one, shared_left, one_peer}
+use Rattle.turns.proofs.ProgressLemmas.{awaits_input}
 use Rattle.turns.proofs.SettledLemmas.{heard_none, each_one, each_left, only_none, only_one}
 use Rattle.turns.proofs.settled.hear_peer.Goals as goal
 
@@ -65,12 +67,23 @@ returns-clause-heard g c =
     (λ other apart. put.updates.others other (λ is. apart (is ∙ same)) ∙ c.in-Some.ensures.updates.others other apart)
     (λ peer is.
     let there = one_peer (sym is ∙ ap (get c.insert_reserved.new.self) (sym same) ∙ put.updates.changed) in
-    subst (IsHeard g.T.Read.remaining c.in-Some.peer) (sym there) c.hear-next.ensures.heard)
+    let it = c.hear-next.ensures.heard in
+    subst (IsHeard g.T.Read.remaining c.in-Some.peer) (sym there)
+    record { received = it.received; sent = it.sent; since = it.since })
 
 pub returns-clause-rests : goal.returns-clause-rests
 returns-clause-rests g c =
     let put = c.insert_reserved.ensures in
     let same : c.insert_reserved.result ≡ c.args.key = put.key ∙ c.in-Some.ensures.key_is_next in
-    let there : get c.insert_reserved.new.self c.args.key ≡ Some c.hear-next.new.peer =
-    ap (get c.insert_reserved.new.self) (sym same) ∙ put.updates.changed in
+    let there = ap (get c.insert_reserved.new.self) (sym same) ∙ put.updates.changed in
     subst IsAtRest (sym there) c.hear-next.ensures.rests
+
+pub returns-clause-waits : goal.returns-clause-waits
+returns-clause-waits g c =
+    let put = c.insert_reserved.ensures in
+    let same : c.insert_reserved.result ≡ c.args.key = put.key ∙ c.in-Some.ensures.key_is_next in
+    let there = ap (get c.insert_reserved.new.self) (sym same) ∙ put.updates.changed in
+    let undone : c.hear-next.result ≢ Done = search rules in
+    subst AwaitsUnlessNoted (sym there)
+    (λ unnoted. awaits_input c.hear-next.new.peer.connection c.hear-next.ensures.rests
+    (c.hear-next.ensures.waits undone (sym c.goes_on.ensures ∙ unnoted)))

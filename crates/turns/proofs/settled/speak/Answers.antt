@@ -10,7 +10,7 @@ pub loop-preserved : goal.loop-preserved
 loop-preserved g c =
     let ok = c.in-Ok.ensures.ok in
     let h = history c.loop.peer.connection in
-    let n = c.in-Ok.field-0 in
+    let n = c.in-Ok.count in
     let before = c.loop.invariant.0 in
     let some : n ≢ 0 = search rules in
     let there : 0 < length h.pending = search rules in
@@ -21,6 +21,11 @@ loop-preserved g c =
             ∙ ap (λ (l : List ℕ). h.sent ++ l) (take-append-drop _ _);
         sent = (take n h.pending, sent, ok.1);
         since = λ _. refl;
+        received = ap (λ (k : History). k.received) ok.0;
+        ended = ap (λ (k : History). k.ended) ok.0;
+        state = ap (λ (k : History). k.state) ok.0;
+        config = c.write_to.ensures.config;
+        more = refl;
       },
       c.loop.invariant.1,
       λ _ same. taken_some n h.pending some there
