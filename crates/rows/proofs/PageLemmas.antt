@@ -27,7 +27,7 @@ use Rattle.sqlite.specs.Query.{Output, output, IsAnswer}
 use Rattle.sqlite.specs.declared.error.Error.{Error}
 use Rattle.sqlite.specs.State.{State, Begins, Shown, FailsToQuery}
 use Rattle.sqlite.specs.Held.{Held, state}
-use Rattle.sqlite.specs.Given.{Advances, HasBegun}
+use Rattle.sqlite.specs.Given.{Advances}
 use Rattle.sqlite.proofs.Callers.{begins_as, given_begin, reads_as}
 use Rattle.rows.specs.Entries.{range_text, entry_schema, key_of, words_of, bytes_in, Holds, IsFrom, IsStore, IsFull, StopsInTime, IsPage}
 use Rattle.rows.specs.Visits.{Entry, ShowsTexts}
@@ -36,7 +36,7 @@ use Rattle.rows.proofs.Cut.{front_rises, front_below, texts_rise, at_most, just,
 use Rattle.rows.proofs.Each.{stored, shown, sorted_after, map_alike, map_twice, each_mapped, less, ShowsKey}
 use Rattle.rows.proofs.Found.{and_true, truth_back, has_permuted}
 use Rattle.rows.proofs.Kept.{text_of_same}
-use Rattle.rows.proofs.Readings.{AreTexts, entries_of, stored_texts, HasRead, read_all}
+use Rattle.rows.proofs.Readings.{AreTexts, entries_of, stored_texts, Starts, HasRead, read_all}
 use Rattle.rows.proofs.Statements.{is_from, range_query, range_command, range_is, range_plain}
 
 -- ---- the test
@@ -72,7 +72,7 @@ abbrev keys_of : List Entry → List (List ℕ)
 keys_of entries = map (λ (e : Entry). e.0) entries
 
 -- What the query shows with no bound on bytes: the first rows from a key on, one missing only behind `limit` others.
-pub record IsWhole (db : Database) (start : List ℕ) (limit : ℕ) (entries : List Entry) : Type 0 where
+pub record IsFirstRows (db : Database) (start : List ℕ) (limit : ℕ) (entries : List Entry) : Type 0 where
   pub held : (e : Entry) → Has entries e → IsFrom start e.0 × Holds db e.0 e.1
   pub rising : IsStrictlySortedBy (slice_cmp nat_cmp) (keys_of entries)
   pub most : length entries ≤ limit
@@ -154,7 +154,8 @@ module _ (db : Database) (sound : IsDatabase db) (store : IsStore db) (trees : T
   shown_texts v h =
       let there = subst (λ l. Has l v) halves (has_left (take limit all) (drop limit all) v (subst (λ l. Has l v) (sym shown_first) h)) in
       let row = has_mapped stored rows v (has_permuted (map stored rows) all v same there) in
-      stored_texts db sound store v (subst (Has (map stored (db.trees 0))) (sym row.2) (mapped_has stored (db.trees 0) row.0 (among row.0 row.1)))
+      stored_texts db sound store v
+      (subst (Has (map stored (db.trees 0))) (sym row.2) (mapped_has stored (db.trees 0) row.0 (among row.0 row.1)))
 
   module _ (entries : List Entry) (read : map shown found ≡ map words_of entries) where
     -- the first of them are the entries
@@ -200,8 +201,8 @@ module _ (db : Database) (sound : IsDatabase db) (store : IsStore db) (trees : T
           )
         ]
 
-    pub is_whole : IsWhole db start limit entries
-    is_whole = record {
+    pub is_first_rows : IsFirstRows db start limit entries
+    is_first_rows = record {
       held = comes_from;
       rising = texts_rise entries (subst (IsStrictlySortedBy value_cmp) entry_keys
           (front_rises value_cmp (map (λ (v : Value × Value). v.0) (take limit all))
@@ -233,7 +234,7 @@ one_more max_bytes entries e few front last is some =
     subst (λ (l : List Entry). bytes_in l < max_bytes) same (few (λ none. some (sym same ∙ none)))
 
 -- the first entries are a page if they are all, or have as many bytes as a page may have
-pub is_page : (db : Database) (start : List ℕ) (limit max_bytes : ℕ) (front rest : List Entry) → IsWhole db start limit (front ++ rest)
+pub is_page : (db : Database) (start : List ℕ) (limit max_bytes : ℕ) (front rest : List Entry) → IsFirstRows db start limit (front ++ rest)
     → (rest ≡ []) ⊎ (max_bytes ≤ bytes_in front) → StopsInTime max_bytes front → IsPage db start limit max_bytes front
 is_page db start limit max_bytes front rest whole ends in_time = record {
   held = λ e h. whole.held e (has_left front rest e h);
@@ -291,12 +292,13 @@ room_used max_bytes entries room is more some =
 -- ---- the rows of a query
 
 -- the parameters of a query are known by an equation
-pub fails_as : (text : List ℕ) (p q : Row) (old new : State) (e : Error) → FailsToQuery text p old new e → p ≡ q → FailsToQuery text q old new e
+pub fails_as : (text : List ℕ) (p q : Row) (old new : State) (e : Error) → FailsToQuery text p old new e → p ≡ q
+    → FailsToQuery text q old new e
 fails_as text p q old new e fails is = subst (λ r. FailsToQuery text r old new e) is fails
 
-pub starts_as : {S : Type 0} (g : Ghosts S) (text : List ℕ) (p q : Row) (old now : Held S) → HasBegun g text p old now → p ≡ q
-    → HasBegun g text q old now
-starts_as g text p q old now begins is = subst (λ r. HasBegun g text r old now) is begins
+pub starts_as : {S : Type 0} (g : Ghosts S) (text : List ℕ) (p q : Row) (old now : Held S) → Starts g text p old now → p ≡ q
+    → Starts g text q old now
+starts_as g text p q old now begins is = subst (λ r. Starts g text r old now) is begins
 
 abbrev pub range_params : List ℕ → ℕ → Row
 range_params start limit = Text start ∷ Int (pos limit) ∷ []
@@ -304,7 +306,7 @@ range_params start limit = Text start ∷ Int (pos limit) ∷ []
 -- rows that begin an answer show the first entries
 begins_page : (s : State) (start : List ℕ) (limit : ℕ) (found : List Row) (front : List Entry) → IsDatabase s.now → IsStore s.now
     → Begins range_text (range_params start limit) s found → map shown found ≡ map words_of front
-    → (rest : List Entry) × IsWhole s.now start limit (front ++ rest)
+    → (rest : List Entry) × IsFirstRows s.now start limit (front ++ rest)
 begins_page s start limit found front sound store h read =
     let first = begins_as range_text (range_params start limit) s s entry_schema store.schema range_command range_is.0 range_plain
     range_is.1 found h in
@@ -317,25 +319,25 @@ begins_page s start limit found front sound store h read =
     (subst (λ l. Has l v) (sym joined) (has_right (map shown found) (map shown tail) v there)))) in
     let all : map shown (found ++ tail) ≡ map words_of (front ++ rest.0) =
     joined ∙ (λ i. read i ++ rest.1 i) ∙ sym (map-append words_of front rest.0) in
-    (rest.0, is_whole s.now sound store trees refl start limit (found ++ tail) answer (front ++ rest.0) all)
+    (rest.0, is_first_rows s.now sound store trees refl start limit (found ++ tail) answer (front ++ rest.0) all)
 
 -- rows that are the answer show all entries
 shows_page : (old new : State) (start : List ℕ) (limit : ℕ) (found : List Row) (entries : List Entry) → IsDatabase old.now
     → IsStore old.now → Shown range_text (range_params start limit) old new found → map shown found ≡ map words_of entries
-    → IsWhole old.now start limit entries
+    → IsFirstRows old.now start limit entries
 shows_page old new start limit found entries sound store h read =
     let all = reads_as range_text (range_params start limit) old new entry_schema store.schema range_command range_is.0 range_plain
     range_is.1 found h in
-    is_whole old.now sound store (overlay old.now.trees []) refl start limit found (all.answer Null) entries read
+    is_first_rows old.now sound store (overlay old.now.trees []) refl start limit found (all.answer Null) entries read
 
 module _ {S : Type 0} (g : Ghosts S) (start : List ℕ) (limit max_bytes : ℕ) (old : Held S) (sound : IsDatabase (state g old).now)
     (store : IsStore (state g old).now) where
   -- the entries that were read so far, while there are more
   so_far : (now : Held S) (front : List Entry) → HasRead g range_text (range_params start limit) old now front
-      → (rest : List Entry) × IsWhole (state g old).now start limit (front ++ rest)
+      → (rest : List Entry) × IsFirstRows (state g old).now start limit (front ++ rest)
   so_far now front has =
       let back = has.same.0.now_is in
-      subst (λ db. (rest : List Entry) × IsWhole db start limit (front ++ rest)) back
+      subst (λ db. (rest : List Entry) × IsFirstRows db start limit (front ++ rest)) back
       (begins_page (state g now) start limit has.given front (subst IsDatabase (sym back) sound) (subst IsStore (sym back) store)
       (given_begin g range_text (range_params start limit) now has.given has.gives) has.read)
 
@@ -364,5 +366,6 @@ module _ {S : Type 0} (g : Ghosts S) (start : List ℕ) (limit max_bytes : ℕ) 
       let whole = shows_page (state g mid) (state g now) start limit has.given front (subst IsDatabase (sym back) sound)
       (subst IsStore (sym back) store) (read_all g range_text (range_params start limit) old mid now row front has moves shows) has.read in
       is_page (state g old).now start limit max_bytes front []
-      (subst (IsWhole (state g old).now start limit) (sym (append-nil front)) (subst (λ db. IsWhole db start limit front) back whole))
+      (subst (IsFirstRows (state g old).now start limit) (sym (append-nil front))
+      (subst (λ db. IsFirstRows db start limit front) back whole))
       (inl refl) in_time

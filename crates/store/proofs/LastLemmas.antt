@@ -124,7 +124,10 @@ module _ {V : Type 0} (of : Codec V) (key : List ℕ) where
   at_step : (m next : Map) (c : Call) (other : List ℕ) → IsEntry (path_of c.0) other
       → AnsweredAtMap of other c.0 (outcome m c.1 next) → Step m c next
   at_step m next c other entry (inl (is, (same, inl shown))) =
-      inl (same_at m next same, λ change. shown_quiet (is_bare (method_of c.0) (headers_of c.0)) (headers_of c.0) (m other) c.1 shown change.1)
+      inl (
+        same_at m next same,
+        λ change. shown_quiet (is_bare (method_of c.0) (headers_of c.0)) (headers_of c.0) (m other) c.1 shown change.1,
+      )
   at_step m next c other entry (inl (is, (same, inr failed))) =
       inl (same_at m next same, λ change. no_success 503 c.1 failed.status quiet_503 change.1)
   at_step m next c other entry (inr (inl (is, inl (met, inl (text, meant, put, status))))) =

@@ -81,7 +81,8 @@ module _ {S : Type 0} (g : Ghosts S) {V T : Type 0} (of : Codec V) (remaining co
 
   -- the round of the service, with the maps in place of its states
   over_map : (result : RoundResult) (m called last : Map) (it : Settled result)
-      → Chain (AnsweredIf old.2 of result.stands) m (all_calls turns) called → LeavesMap m called result.stands last → SettledMap m last result
+      → Chain (AnsweredIf old.2 of result.stands) m (all_calls turns) called → LeavesMap m called result.stands last
+      → SettledMap m last result
   over_map result m called last it calls leaves = record {
     called = called;
     heard = it.heard;

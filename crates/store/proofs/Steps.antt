@@ -1,5 +1,6 @@
 -- The exits of a call on one entry: what each of them makes of the rows, by what the calls of `rows` say.
-use Rattle.std.proofs.Common.{◌≡◌, ◌⊎◌, inl, inr, ℕ, List, Bool, true, Option, Some, None, Result, Ok, Err, IfOk, OnOk, IsTrue, refl, sym, subst, ◌∙◌}
+use Rattle.std.proofs.Common.{◌≡◌, ◌⊎◌, inl, inr, ℕ, List, Bool, true, Option, Some, None, Result, Ok, Err, IfOk, OnOk}
+use Rattle.std.proofs.Common.{IsTrue, refl, sym, subst, ◌∙◌}
 use Rattle.http_header.specs.FieldValue.{FieldValue}
 use Rattle.http_header.specs.HeaderMap.{Entries}
 use Rattle.http_server.specs.declared.response.Response.{Response}
@@ -194,7 +195,8 @@ module _ (a b : State) where
       then a b b _ (start ≡ start) (ListsFrom (outcome a response b) bare headers start limit) query (stays b (start ≡ start) refl)
       (λ it _. by it shown)
     where
-      by : Found (IsPage a.now start limit max_page_bytes entries) → Shows bare headers (Some (object_text entries)) response ⊎ IsStatus 503 response
+      by : Found (IsPage a.now start limit max_page_bytes entries)
+          → Shows bare headers (Some (object_text entries)) response ⊎ IsStatus 503 response
           → ListsFrom (outcome a response b) bare headers start limit
       by (live, kept, is) (inl shown) = (kept, inl (live, inl (entries, is, shown)))
       by (live, kept, is) (inr status) = (kept, inr status)

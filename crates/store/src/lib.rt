@@ -14,4 +14,5 @@ pub mod rounds;
 mod routes;
 pub mod service;
 pub mod shared;
+mod shown;
 pub mod stream;

@@ -12,9 +12,10 @@ ghost use Rattle.store.specs.Answered.{allow_list_field, problem_field, limit_pr
 ghost use Rattle.store.specs.Answered.{outcome, ShowsAny, ListsFrom, Lists, AnsweredList, Goes};
 
 use crate::conditions::{Condition, judge_any};
-use crate::entries::{bad_request, is_bare, show, show_bare, unavailable};
+use crate::entries::bad_request;
 use crate::reason::details;
 use crate::routes::is_read;
+use crate::shown::{is_bare, show, show_bare, unavailable};
 use bytes::Bytes;
 use form_urlencoded::parse;
 use http::{HeaderMap, HeaderValue, Request, StatusCode, header};

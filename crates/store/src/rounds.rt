@@ -7,11 +7,12 @@ ghost use Rattle.store.specs.Answered.{codec, outcome};
 ghost use Rattle.store.specs.Maps.{Map, ReadsMap, PutsMap, RemovesMap, AnsweredListMap};
 ghost use Rattle.store.specs.Rounds.{IsUnderWay, IsOff, InRound, IsBetween};
 
-use crate::entries::{is_bare, not_allowed, put, read, remove};
+use crate::entries::{not_allowed, put, read, remove};
 use crate::explain::{ByValue, Explain};
 use crate::hosts::is_for_host;
 use crate::lists::answer_list;
 use crate::routes::{Verb, entry_key, is_list, verb_of};
+use crate::shown::is_bare;
 use bytes::Bytes;
 use http::{HeaderMap, Request, StatusCode};
 use http_server::{Response, Settle};

@@ -2,11 +2,12 @@
 ghost use Rattle.std.specs.Prelude.{◌≡◌, map, string_bytes};
 ghost use Rattle.http_server.specs.Response.{IsBlank};
 
-use crate::entries::{is_bare, not_allowed, put, read, remove};
+use crate::entries::{not_allowed, put, read, remove};
 use crate::explain::{ByValue, Explain};
 use crate::hosts::is_for_host;
 use crate::lists::answer_list;
 use crate::routes::{Verb, entry_key, is_list, verb_of};
+use crate::shown::is_bare;
 use bytes::Bytes;
 use http::{Request, StatusCode};
 use http_server::{Response, Service};

@@ -1,5 +1,6 @@
 -- The rows that the query has given so far are the page so far.
-use Rattle.std.proofs.Common.{rules, arith, ◌≡◌, ◌<◌, ◌≤◌, ◌-◌, ◌+◌, String, string_bytes, [], ◌∷◌, ◌++◌, ℕ, map, length, refl, sym, ap, subst, ◌∙◌}
+use Rattle.std.proofs.Common.{rules, arith, ◌≡◌, ◌≤◌, ◌-◌, String, string_bytes, [], ◌∷◌, ◌++◌, map, length}
+use Rattle.std.proofs.Common.{refl, sym, ap, subst, ◌∙◌}
 use Rattle.std.proofs.lemmas.List.{length-append, map-append}
 use Rattle.std.specs.Global.{Global}
 use Rattle.sqlite.specs.State.{HasCleanDisk}
@@ -18,7 +19,8 @@ returns-in_err-rows-clause-aborts g c clean has =
     let old = state g.S.Store c.args.conn.now in
     let new = state g.S.Store c.query.follows.lender-at-none in
     let refused = rw c.in_err-rows.was at c.query.follows.holds-at-none in
-    on_err _ (query_aborts range_text (range_params c.args.from.now c.args.limit) old new _ (fails_as range_text _ _ old new _ (refused.err clean) (search rules)))
+    on_err _ (query_aborts range_text (range_params c.args.from.now c.args.limit) old new _
+    (fails_as range_text _ _ old new _ (refused.err clean) (search rules)))
 
 pub returns-in_err-rows-clause-serving : goal.returns-in_err-rows-clause-serving
 returns-in_err-rows-clause-serving g c clean s =
@@ -26,7 +28,8 @@ returns-in_err-rows-clause-serving g c clean s =
     let new = state g.S.Store c.query.follows.lender-at-none in
     let refused = rw c.in_err-rows.was at c.query.follows.holds-at-none in
     aborts_serving old new s
-    (query_aborts range_text (range_params c.args.from.now c.args.limit) old new _ (fails_as range_text _ _ old new _ (refused.err clean) (search rules)))
+    (query_aborts range_text (range_params c.args.from.now c.args.limit) old new _
+    (fails_as range_text _ _ old new _ (refused.err clean) (search rules)))
 
 pub returns-in_err-rows-clause-kept : goal.returns-in_err-rows-clause-kept
 returns-in_err-rows-clause-kept g c clean s =
@@ -34,7 +37,8 @@ returns-in_err-rows-clause-kept g c clean s =
     let new = state g.S.Store c.query.follows.lender-at-none in
     let refused = rw c.in_err-rows.was at c.query.follows.holds-at-none in
     aborts_keeps old new s
-    (query_aborts range_text (range_params c.args.from.now c.args.limit) old new _ (fails_as range_text _ _ old new _ (refused.err clean) (search rules)))
+    (query_aborts range_text (range_params c.args.from.now c.args.limit) old new _
+    (fails_as range_text _ _ old new _ (refused.err clean) (search rules)))
 
 pub loop-i-init : goal.loop-i-init
 loop-i-init g c =
@@ -49,7 +53,8 @@ loop-i-init g c =
             omega (arith, made.survives.clean),
             starts_open g.S.Store range_text params old now begins,
             λ has. subst (HasRead g.S.Store range_text params old now) (sym none)
-                (read_none g.S.Store range_text params old now (subst (λ s. IsPlain (understood s range_text)) (sym has) range_plain) begins),
+                (read_none g.S.Store range_text params old now
+                (subst (λ s. IsPlain (understood s range_text)) (sym has) range_plain) begins),
           ),
       ap length none,
       (let empty = ap bytes_in none in omega (arith, empty)),
@@ -78,7 +83,8 @@ loop-i-preserved g c =
             before.0,
             before.1,
             λ has. subst (HasRead gs range_text params old now) (sym more)
-                (read_one gs range_text params old mid now moved.0 one entries (before.2 has) (c.in_ok-key.ensures.same clean) moved.1 moved.2),
+                (read_one gs range_text params old mid now moved.0 one entries (before.2 has) (c.in_ok-key.ensures.same clean)
+                moved.1 moved.2),
           ),
       ap length more ∙ omega (arith, counted, sum),
       room_left c.args.max_bytes entries (texts_of one) c.loop-i.room _ _ c.loop-i.invariant.3 c.saturating_sub.ensures

@@ -18,7 +18,8 @@ returns-in-Ok g c =
     (found_in_store old new (IsPage old.now start c.args.limit max_page_bytes entries)
     (record { clean = rows.clean; serving = rows.serving; live = rows.live; kept = rows.kept; same = rows.same })
     (λ clean store.
-    subst (λ xs. IsPage old.now start c.args.limit max_page_bytes (map texts_of xs)) (sym c.as_slice.ensures.value) (rows.page clean store)))
+    subst (λ xs. IsPage old.now start c.args.limit max_page_bytes (map texts_of xs)) (sym c.as_slice.ensures.value)
+    (rows.page clean store)))
     c.show_entries.ensures
 
 pub returns-in-Err : goal.returns-in-Err
