@@ -88,6 +88,6 @@ int main(void)
         calls(wide(SIZES[at]));
         calls(deep(SIZES[at] / 8));
     }
-    printf("large texts: %d checks, %d failed\n", checks, failures);
+    printf("%d checks, %d failed\n", checks, failures);
     return failures != 0;
 }
