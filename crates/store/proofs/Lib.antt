@@ -5,3 +5,5 @@ mod ShareLemmas
 mod MapLemmas
 mod ChainLemmas
 mod LastLemmas
+mod ConditionLemmas
+mod HostLemmas

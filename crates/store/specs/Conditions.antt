@@ -46,6 +46,10 @@ has_if_match headers = is_some (get headers (codes "if-match"))
 abbrev pub wants_none : Entries FieldValue → Bool
 wants_none headers = has_any (values_of headers (codes "if-none-match"))
 
+-- `If-Match` holds for any entry: it is absent or `*`
+abbrev pub matches_any : Entries FieldValue → Bool
+matches_any headers = not (has_if_match headers) || has_any (values_of headers (codes "if-match"))
+
 -- What the conditions say of an entry of this tag. `If-Match` compares strongly and goes first (sections 13.1.1 and 13.2.2),
 -- `If-None-Match` compares weakly (section 13.1.2).
 abbrev pub condition : Entries FieldValue → List ℕ → Condition

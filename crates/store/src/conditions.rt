@@ -90,22 +90,27 @@ pub fn wants_none(headers: &HeaderMap) -> bool
     has_any(headers, header::IF_NONE_MATCH)
 }
 
+// Whether `If-Match` holds for any entry: it is absent or `*`.
+fn matches_any(headers: &HeaderMap) -> bool
+    ensures { result ≡ spec.matches_any headers.now }
+{
+    !has_if_match(headers) || has_any(headers, header::IF_MATCH)
+}
+
 /// Returns what the conditions of a request say of an entry, or `None` if that depends on the entry's tag.
 pub fn judge_any(headers: &HeaderMap) -> Option<Condition>
     ensures { IfSome result (λ known. (tag : List ℕ) → spec.condition headers.now tag ≡ known) }
 {
-    if has_if_match(headers) {
-        if !has_any(headers, header::IF_MATCH) {
-            return None;
-        }
+    if !matches_any(headers) {
+        return None;
     }
     if wants_none(headers) {
         return Some(Condition::Cached);
     }
-    if headers.get(header::IF_NONE_MATCH).is_some() {
-        return None;
+    match headers.get(header::IF_NONE_MATCH) {
+        Some(_) => None,
+        None => Some(Condition::Met),
     }
-    Some(Condition::Met)
 }
 
 /// Returns whether the conditions of a request hold for a key with no entry, for which `If-None-Match` always does.

@@ -89,6 +89,8 @@ _rooms: List[_Room] = []
 def _bytes_of(text: Text) -> bytes:
     """Returns bytes that no other thread can change during a call. They are of the type `bytes` itself: a subclass could
     give another length than it has."""
+    if type(text) is bytes:
+        return text
     if isinstance(text, str):
         return str.encode(text)
     if isinstance(text, (bytes, bytearray, memoryview)):
