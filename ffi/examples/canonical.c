@@ -14,7 +14,7 @@ int main(void)
                 free(text);
             text = more;
         }
-    /* What was read before an error may be JSON too, such as 12 of 123. */
+    /* The part before a read error may be JSON too, such as 12 of 123. */
     if (ferror(stdin)) {
         free(text);
         return 4;

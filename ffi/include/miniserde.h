@@ -11,7 +11,7 @@
  * call allocates and frees, and the stack that it takes. Not proved are the code of malloc and memcpy, the compiler, and
  * the caller.
  *
- * The library needs a processor with SSE4.2 (x86-64-v2), and does not ask whether it has one.
+ * The library needs a processor with SSE4.2 (x86-64-v2) and does not check for it.
  *
  * What every call requires of its caller:
  *

@@ -33,7 +33,7 @@ _OK, _INVALID, _MEMORY, _ROOM, _DIFFERENT = range(5)
 
 
 def _require_sse42(cpuinfo: str = "/proc/cpuinfo") -> None:
-    """Raises `ImportError` if the processor lacks SSE4.2, which the library uses without asking. Does nothing if Linux does not say."""
+    """Raises `ImportError` if the processor lacks SSE4.2, which the library uses without a check. Accepts a processor whose flags it cannot read."""
     try:
         with open(cpuinfo, encoding="ascii", errors="replace") as file:
             flags = next((line.split() for line in file if line.startswith("flags")), ["sse4_2"])
