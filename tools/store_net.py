@@ -5,6 +5,7 @@ import re
 import signal
 import socket
 import subprocess
+import time
 
 from store_requests import Request, answer, expect, response_from
 
@@ -45,6 +46,27 @@ class Server:
         """Returns how many seconds of processor time it has taken."""
         fields = pathlib.Path(f"/proc/{self.run.pid}/stat").read_text().rpartition(")")[2].split()
         return (int(fields[11]) + int(fields[12])) / os.sysconf("SC_CLK_TCK")
+
+
+class TriedServer(Server):
+    """The program of a crate as `rt try` builds it, with nothing proved, on a file. What it prints comes at its end."""
+
+    def __init__(self, crate, path):
+        with socket.create_server(("127.0.0.1", 0)) as free:
+            self.port = free.getsockname()[1]
+        words = ["rt", "try", "--seconds", "3600", "--", path, f"127.0.0.1:{self.port}", "store.example"]
+        self.run = subprocess.Popen(words, cwd=crate, stdout=subprocess.PIPE, stderr=subprocess.PIPE, text=True)
+        while self.run.poll() is None:
+            try:
+                socket.create_connection(("127.0.0.1", self.port)).close()
+                return
+            except ConnectionRefusedError:
+                time.sleep(0.5)
+        expect(False, f"`rt try` says {self.run.communicate()}")
+
+    def __exit__(self, *_):
+        self.run.terminate()
+        self.run.communicate()
 
 
 class Client:

@@ -37,19 +37,25 @@ def asking(server, request, room=4096):
     return made
 
 
-def large(program, folder, count=101, size=2_000):
-    """Lists more entries than a page has by default, in some 200 kB, to a client that takes little at once."""
+def lists(server, count=101, size=2_000):
+    """Puts more entries than a page has by default, and lists them to a client that takes little at once. Returns the length of the list."""
     entries = {f"k{number:03}": goods(size) for number in range(count)}
+    put_all(server, entries)
+    for limit in (None, str(count)):
+        request = Listing("GET", None, limit)
+        wanted, _ = answer(entries, request)
+        with asking(server, request) as client, client.makefile("rb") as stream:
+            came = response_from(stream, "GET")
+        expect(came == wanted, f"a list of {limit or 100}: {came and (came[0], len(came[2]))}, and not {wanted[0], len(wanted[2])}")
+    return len(wanted[2])
+
+
+def large(program, folder):
+    """Lists more entries than a page has by default, in some 200 kB."""
     with Server(program, f"{folder}/large.db") as server:
-        put_all(server, entries)
-        for limit in (None, str(count)):
-            request = Listing("GET", None, limit)
-            wanted, _ = answer(entries, request)
-            with asking(server, request) as client, client.makefile("rb") as stream:
-                came = response_from(stream, "GET")
-            expect(came == wanted, f"a list of {limit or 100}: {came and (came[0], len(came[2]))}, and not {wanted[0], len(wanted[2])}")
+        size = lists(server)
         server.end()
-    return f"lists of 100 and {count} entries, the second of {len(wanted[2])} bytes, to a client that takes little at once"
+    return f"lists of 100 and 101 entries, the second of {size} bytes, to a client that takes little at once"
 
 
 def idle_cost(program, folder, seconds=5):
@@ -62,7 +68,12 @@ def idle_cost(program, folder, seconds=5):
             greedy.setsockopt(socket.SOL_SOCKET, socket.SO_RCVBUF, 4096)
             greedy.connect(("127.0.0.1", server.port))
             greedy.sendall(sent)
-            time.sleep(2)
+            # First it fills the buffers of the system.
+            for _ in range(90):
+                before = server.processor_time()
+                time.sleep(1)
+                if server.processor_time() - before < 0.05:
+                    break
             before = server.processor_time()
             time.sleep(seconds)
             took = server.processor_time() - before

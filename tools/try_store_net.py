@@ -1,6 +1,7 @@
 """Tries the server that `./new FOLDER store` makes, over 127.0.0.1, and holds its responses and its files against a map.
 
     tools/try_store --net [--program PATH] [--only WORD]
+    tools/try_store --net --short    a few trials, of the server as `rt try` builds it, with nothing proved: minutes
 
 Without PATH, the server's program, it makes a repository, has `rt run` prove and build the program there, which takes long,
 and tries that. WORD is part of the name of a trial. The map is the dictionary of tools/store_requests.py, and files are read
@@ -25,10 +26,10 @@ import threading
 import time
 from concurrent.futures import ThreadPoolExecutor
 
-from store_net import Client, Server, shown
+from store_net import Client, Server, TriedServer, shown
 from store_requests import HAS_SQLITE, KEYS, Request, Wrong, answer, expect, made_put, made_request, response_from, rows
 from try_store_ends import full_disk, killed, terminated
-from try_store_limits import idle_cost, large, memory_bound, stalled
+from try_store_limits import idle_cost, large, lists, memory_bound, stalled
 
 ROOT = pathlib.Path(__file__).resolve().parent.parent
 # What main.rt of the server says.
@@ -326,7 +327,18 @@ def made_program(folder):
     return crate / "out/server"
 
 
+def short():
+    """Tries the server as `rt try` builds it: lists of 100 and 101 entries, of which the second is some 200 kB. Returns what it tried."""
+    with tempfile.TemporaryDirectory(prefix="store-") as folder:
+        subprocess.run([ROOT / "new", f"{folder}/made", "store"], stdout=subprocess.DEVNULL, check=True)
+        with TriedServer(f"{folder}/made/crates/server", f"{folder}/short.db") as server:
+            return f"a list of {lists(server)} bytes over a socket"
+
+
 def main(words):
+    if words == ["--short"]:
+        print(short())
+        return 0
     read = argparse.ArgumentParser(description=__doc__, formatter_class=argparse.RawDescriptionHelpFormatter)
     read.add_argument("--program", type=os.path.abspath)
     read.add_argument("--only", default="")
