@@ -40,7 +40,7 @@ loop-key-preserved g c =
     let grown = c.if-speak_peer.unfinished in
     let found = done.2.0 in
     let progressed : (found : List ℕ) × (grown.items ≡ old ++ found)
-        × HaveProgressed c.args.heard (take i keys ++ key ∷ []) first after found =
+    × HaveProgressed c.args.heard (take i keys ++ key ∷ []) first after found =
     elim c.if-speak_peer.branch [
       | then-speak_peer+in_ok-push w ↦ (
         found ++ key ∷ [],
