@@ -21,7 +21,8 @@ too_short text host short = elim (cases_Bool (bytes_eq (in_lowercase (take (leng
   where
     never : length (in_lowercase (take (length host) text)) ≡ length (in_lowercase host) → ⊥
     never size =
-        let front : length (in_lowercase (take (length host) text)) ≡ length (take (length host) text) = length-map (take (length host) text) _ in
+        let front : length (in_lowercase (take (length host) text)) ≡ length (take (length host) text) =
+        length-map (take (length host) text) _ in
         let whole : length (in_lowercase host) ≡ length host = length-map host _ in
         let most = length-take (length host) text in
         grind (arith, size, front, whole, most, short)
