@@ -11,12 +11,14 @@ use Rattle.store.specs.Conditions.{values_of, lists, is_any_met, has_any, has_if
 -- a field with the value `*` is met by any tag
 any_met : (tag : List ℕ) (weak : Bool) (values : List (List ℕ)) → has_any values ≡ true → is_any_met tag weak values ≡ true
 any_met tag weak [] any = absurd (true≢false (sym any))
-any_met tag weak (value ∷ values) any = by (bytes_eq value (codes "*")) (lists value tag weak) any
+any_met tag weak (value ∷ values) any =
+    by (bytes_eq value (codes "*")) (lists value tag weak) (λ rest. any_met tag weak values rest) any
   where
-    by : (star listed : Bool) → (star || has_any values) ≡ true → ((star || listed) || is_any_met tag weak values) ≡ true
-    by true listed any = refl
-    by false true any = refl
-    by false false any = any_met tag weak values any
+    by : (star listed : Bool) → (has_any values ≡ true → is_any_met tag weak values ≡ true) → (star || has_any values) ≡ true
+        → ((star || listed) || is_any_met tag weak values) ≡ true
+    by true listed later any = refl
+    by false true later any = refl
+    by false false later any = later any
 
 -- a field without a value is met by none
 none_met : (tag : List ℕ) (weak : Bool) (values : List FieldValue) → values ≡ []

@@ -212,4 +212,4 @@ module _ (old new : State) (m : Map) (sees : SeesMap old m) where
     answered_map_for hosts request response (inl (served, answer)) =
         let it = answered_map request response answer in
         (it.0, inl (served, it.1), it.2)
-    answered_map_for hosts request response (inr (other, kept, sent)) = (m, inr (other, refl, sent), kept_sees kept)
+    answered_map_for hosts request response (inr (other, (kept, sent))) = (m, inr (other, refl, sent), kept_sees kept)

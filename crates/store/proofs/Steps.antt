@@ -206,7 +206,8 @@ module _ (a b : State) where
       → ((text : List ℕ) → ShownBy true condition text response) ⊎ IsStatus 503 response
       → Goes a b (ShowsAny (outcome a response b) condition)
   any_found condition response query shown =
-      then a b b _ (a ≡ a) (ShowsAny (outcome a response b) condition) query (stays b (a ≡ a) refl) (λ it _. by it shown)
+      then a b b _ (condition ≡ condition) (ShowsAny (outcome a response b) condition) query (stays b (condition ≡ condition) refl)
+      (λ it _. by it shown)
     where
       by : Found (Unit {0}) → ((text : List ℕ) → ShownBy true condition text response) ⊎ IsStatus 503 response
           → ShowsAny (outcome a response b) condition

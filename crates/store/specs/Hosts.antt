@@ -6,6 +6,7 @@ use Rattle.std.specs.Char.{to_ascii_lowercase}
 use Rattle.http.specs.declared.request.Request.{Request as HttpRequest}
 use Rattle.http.specs.Request.{head_of}
 use Rattle.http_header.specs.HeaderMap.{get}
+use Rattle.http_uri.specs.Grammar.{authority_host}
 use Rattle.http_uri.specs.Uri.{uri_authority}
 
 -- the names by which a client of this machine reaches it
@@ -35,9 +36,9 @@ abbrev pub first_of : Option (List ℕ) → Option (List ℕ) → Option (List �
 first_of (Some target) field = Some target
 first_of None field = field
 
--- the host that a request names, with its port
+-- the host that a request names: that of the target without its user and port, that of the field as it is
 abbrev pub host_of : HttpRequest (List ℕ) → Option (List ℕ)
-host_of request = first_of (uri_authority (head_of request).uri)
+host_of request = first_of (option_map authority_host (uri_authority (head_of request).uri))
     (option_map (λ v. v.bytes) (get (head_of request).headers (codes "host")))
 
 -- there is a text, and it names one of these hosts

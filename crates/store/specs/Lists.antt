@@ -42,7 +42,7 @@ IsLimit (Some text) limit =
 
 -- the keys and texts of a page have fewer bytes than this before its last entry
 abbrev pub max_page_bytes : ℕ
-max_page_bytes = 1048576
+max_page_bytes = 65536
 
 -- the query asks for at most this many entries
 abbrev pub AsksFor : List ℕ → ℕ → Type 0

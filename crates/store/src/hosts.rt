@@ -58,7 +58,7 @@ pub fn is_for_host(hosts: &[String], request: &Request<Bytes>) -> bool
     ensures { result ≡ spec.is_for_host (map string_bytes hosts.now) request.now }
 {
     if let Some(authority) = request.uri().authority() {
-        return is_served(hosts, authority.as_str().as_bytes());
+        return is_served(hosts, authority.host().as_bytes());
     }
     match request.headers().get(header::HOST) {
         Some(value) => is_served(hosts, value.as_bytes()),

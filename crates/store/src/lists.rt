@@ -32,7 +32,7 @@ const DEFAULT_LIMIT: u32 = 100;
 const MAX_LIMIT: u32 = 1000;
 
 /// Before its last entry, a page has fewer bytes of keys and texts than this.
-const MAX_PAGE_BYTES: usize = 1024 * 1024;
+const MAX_PAGE_BYTES: usize = 64 * 1024;
 
 // Returns the value of the first parameter of a name in a query, or `None` if there is none.
 fn parameter(alloc: Global, query: &str, name: &str) -> Result<Option<String>, AllocError>
@@ -168,7 +168,10 @@ fn any_page<S: Alter>(
         (outcome (state S.Store conn.old) response.new (state S.Store conn.new)) condition) }
 {
     match page_from(alloc, conn, start, 1, 1) {
-        Ok(_) => show_bare(condition, response),
+        Ok(entries) => {
+            drop(entries);
+            show_bare(condition, response)
+        }
         Err(_) => response.status = StatusCode::SERVICE_UNAVAILABLE,
     }
 }
@@ -239,10 +242,15 @@ fn list<S: Alter>(
         return;
     };
     match limit_of(&limit) {
-        Some(limit) => {
-            let start = start_of(&from);
-            list_from(alloc, conn, start, limit, is_bare, headers, response)
-        }
+        Some(limit) => list_from(
+            alloc,
+            conn,
+            start_of(&from),
+            limit,
+            is_bare,
+            headers,
+            response,
+        ),
         None => refuse_limit(alloc, response),
     }
 }

@@ -176,18 +176,18 @@ impl<S: Alter, V, E> Model for RoundService<S, V, E> {
     ghost use Rattle.std.specs.Coded.{coded×, coded_bool, coded_list, coded_ℕ};
     ghost use Rattle.sqlite.specs.Held.{Held, held_code};
 
-    ghost Value = { Held S × Bool × List (List ℕ) };
+    ghost Value = { Held S × (Bool × List (List ℕ)) };
 
     ghost coded = { coded× (held_code S.code) (coded× coded_bool (coded_list (coded_list coded_ℕ))) };
 
-    ghost view = { λ s. (s.conn, s.stands, map string_bytes s.hosts.items) };
+    ghost view = { λ s. (s.conn, (s.stands, map string_bytes s.hosts.items)) };
 }
 
 impl<S: Alter, V: Stable + Lossless, E: Explain<V>> RoundService<S, V, E> {
     /// Returns the store of a connection for these hosts, as `localhost`. The clauses on values suppose that the database has
     /// the table.
     pub fn new(alloc: Global, conn: Connection<S>, hosts: Vec<String>) -> RoundService<S, V, E>
-        ensures { result ≡ (conn, true, map string_bytes hosts.items) }
+        ensures { result ≡ (conn, (true, map string_bytes hosts.items)) }
     {
         RoundService {
             alloc,
@@ -232,11 +232,11 @@ impl<S: Alter, V: Stable + Lossless, E: Explain<V>> Settle for RoundService<S, V
     ghost use Rattle.store.specs.Answered.{codec, outcome};
     ghost use Rattle.store.specs.Rounds.{round_state, AnsweredInRound, SettlesRound};
 
-    ghost answers = { λ old request response new. (new.2 ≡ old.2) × AnsweredInRound old.2 (codec V.means V.tree) request
-        (outcome (round_state (state S.Store old.0) old.1) response (round_state (state S.Store new.0) new.1)) };
+    ghost answers = { λ old request response new. (new.1.1 ≡ old.1.1) × AnsweredInRound old.1.1 (codec V.means V.tree) request
+        (outcome (round_state (state S.Store old.0) old.1.0) response (round_state (state S.Store new.0) new.1.0)) };
 
-    ghost settles = { λ old kept new. (new.2 ≡ old.2)
-        × SettlesRound (state S.Store old.0) old.1 kept (state S.Store new.0) new.1 };
+    ghost settles = { λ old kept new. (new.1.1 ≡ old.1.1)
+        × SettlesRound (state S.Store old.0) old.1.0 kept (state S.Store new.0) new.1.0 };
 
     fn call(
         &mut self,

@@ -37,11 +37,11 @@ pub fn serve_settled_round<S: Alter, V: Stable + Lossless, E: Explain<V>, T: Rea
     // the store, and its last entries are the last commit: where the map has changed, the database is open. If the round is not
     // committed, the map is the one from before, and none of the connections that were heard is left.
     ensures settled { IfOk result (λ it. HasCleanDisk (state S.Store service.new.0) → (m : Map)
-        → IsBetween m (state S.Store service.old.0) service.old.1 → (turns : Turns) × (last : Map)
-        × IsSettled (AnsweredIf service.old.2 (codec V.means V.tree) it.stands) (LeavesMap m) T.remaining T.contents keys.now m last
+        → IsBetween m (state S.Store service.old.0) service.old.1.0 → (turns : Turns) × (last : Map)
+        × IsSettled (AnsweredIf service.old.1.1 (codec V.means V.tree) it.stands) (LeavesMap m) T.remaining T.contents keys.now m last
         (get peers.old) (get peers.new) turns it
-        × IsBetween last (state S.Store service.new.0) service.new.1
-        × (IsTrue it.stands → IsTrue service.new.1 × (IsTrue (state S.Store service.new.0).is_open ⊎ (last ≡ m)))) }
+        × IsBetween last (state S.Store service.new.0) service.new.1.0
+        × (IsTrue it.stands → IsTrue service.new.1.0 × (IsTrue (state S.Store service.new.0).is_open ⊎ (last ≡ m)))) }
     ensures none { OnErr result ((peers.new ≡ peers.old) × (service.new ≡ service.old)) }
 {
     settled_round(alloc, peers, keys, service, now, bound)

@@ -80,10 +80,10 @@ fn serves_long_ones<S: Alter + Drop>(rt: &HostRuntime, conn: Connection<S>) -> R
     )
 }
 
-// Returns whether a page ends with the entry that brings it to a mebibyte, and the next one begins there.
+// Returns whether a page ends with the entry that brings it to 64 KiB, and the next one begins there.
 fn ends_a_page<S: Alter + Drop>(rt: &HostRuntime, conn: Connection<S>) -> Result<bool, Fail> {
     let mut conn = store_of(rt, conn)?.into_connection();
-    let text = long_text(rt, 600_000)?;
+    let text = long_text(rt, 40_000)?;
     for key in ["a", "b", "c"] {
         texts::put(&mut conn, key, text.as_str())?;
     }

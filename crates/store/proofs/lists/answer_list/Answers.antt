@@ -21,19 +21,19 @@ returns-clause-ok g c =
     let new = state g.S.Store c.list.new.conn in
     let request = c.args.request.now in
     let response = c.list.new.response in
-    let headers = c.headers.result.now in
+    let headers = c.headers-headers.result.now in
     let o = outcome old response new in
     let is : IsRead (method_of request) = subst IsRead c.method.ensures (c.is_read.ensures.0 c.if-not-is_read.false) in
     let query : c.unwrap_or-query.result.now ≡ query_of request =
     ap (λ (b : Bor (List ℕ)). b.now) c.unwrap_or-query.ensures ∙ now_or c.query.result _
     ∙ ap (λ (o : Option (List ℕ)). unwrap_or o []) (c.query.ensures.value ∙ ap uri_query c.uri.ensures) in
-    let bare : c.is_bare.result ≡ is_bare (method_of request) (headers_of request) =
-    c.is_bare.ensures ∙ (λ i. is_bare (c.method-2.ensures i) (c.headers.ensures i)) in
-    goes_by old new (Lists o c.is_bare.result headers c.unwrap_or-query.result.now) (AnsweredList request o)
+    let bare : c.is_bare-bare.result ≡ is_bare (method_of request) (headers_of request) =
+    c.is_bare-bare.ensures ∙ (λ i. is_bare (c.method-2.ensures i) (c.headers-headers.ensures i)) in
+    goes_by old new (Lists o c.is_bare-bare.result headers c.unwrap_or-query.result.now) (AnsweredList request o)
     (λ p. inl (
       is,
       subst (λ v. Lists o v (headers_of request) (query_of request)) bare
-          (subst (λ h. Lists o c.is_bare.result h (query_of request)) c.headers.ensures
-          (subst (λ q. Lists o c.is_bare.result headers q) query p)),
+          (subst (λ h. Lists o c.is_bare-bare.result h (query_of request)) c.headers-headers.ensures
+          (subst (λ q. Lists o c.is_bare-bare.result headers q) query p)),
     ))
     c.list.ensures

@@ -23,10 +23,10 @@ returns-clause-settled g c =
     let after = get call.new.peers in
     result_by call.result
     (λ end. (turns : Turns) × Settled g.S.Store of remaining contents c.args.keys.now old new before after turns end)
-    (λ end. HasCleanDisk (state g.S.Store new.0) → (m : Map) → IsBetween m (state g.S.Store old.0) old.1 → (turns : Turns) × (last : Map)
+    (λ end. HasCleanDisk (state g.S.Store new.0) → (m : Map) → IsBetween m (state g.S.Store old.0) old.1.0 → (turns : Turns) × (last : Map)
     × SettledMap g.S.Store of remaining contents c.args.keys.now old new before after turns m last end
-    × IsBetween last (state g.S.Store new.0) new.1
-    × (IsTrue end.stands → IsTrue new.1 × (IsTrue (state g.S.Store new.0).is_open ⊎ (last ≡ m))))
+    × IsBetween last (state g.S.Store new.0) new.1.0
+    × (IsTrue end.stands → IsTrue new.1.0 × (IsTrue (state g.S.Store new.0).is_open ⊎ (last ≡ m))))
     call.ensures.settled
     (λ end it clean m ready.
     let round = round_of_map g.S.Store of remaining contents c.args.keys.now old new before after it.0 end it.1 clean m ready in

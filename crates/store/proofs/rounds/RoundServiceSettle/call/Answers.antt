@@ -14,7 +14,7 @@ use Rattle.store.proofs.rounds.RoundServiceSettle.call.Goals as goal
 
 pub returns-then-not-is_for_host-clause-ok : goal.returns-then-not-is_for_host-clause-ok
 returns-then-not-is_for_host-clause-ok g c =
-    let other : is_for_host c.args.self.now.2 c.args.request.now ≡ false = search rules in (
+    let other : is_for_host c.args.self.now.1.1 c.args.request.now ≡ false = search rules in (
       refl,
       λ clean. (
         clean,
@@ -28,7 +28,7 @@ returns-then-not-is_for_host-clause-ok g c =
 
 pub returns-in_default-clause-ok : goal.returns-in_default-clause-ok
 returns-in_default-clause-ok g c =
-    let served : IsTrue (is_for_host c.args.self.now.2 c.args.request.now) = search rules in
+    let served : IsTrue (is_for_host c.args.self.now.1.1 c.args.request.now) = search rules in
     let path : c.path-2.result.now ≡ path_of c.args.request.now = c.path-2.ensures.value ∙ ap uri_path c.uri-2.ensures in
     let first : c.path.result.now ≡ path_of c.args.request.now = c.path.ensures.value ∙ ap uri_path c.uri.ensures in (
       refl,
@@ -91,19 +91,19 @@ returns-clause-ok g c =
           let call = w.read_in_round-self-inside in
           let response = call.new.response in
           let is : IsRead (method_of request) = subst IsRead c.method.ensures (c.verb_of.ensures.read w.in-Read.is) in
-          let bare : w.is_bare.result ≡ is_bare (method_of request) (headers_of request) =
-          w.is_bare.ensures ∙ (λ i. is_bare (w.method-in-Read.ensures i) (headers i)) in
+          let bare : w.is_bare-bare.result ≡ is_bare (method_of request) (headers_of request) =
+          w.is_bare-bare.ensures ∙ (λ i. is_bare (w.method-in-Read.ensures i) (headers i)) in
           rw (w.self-is, w.response-is, ← c.self.view_is) (
             refl,
             answered hosts of old (state g.S.Store call.new.conn) c.self.inside.stands call.result request response
-                (λ m after. ReadsMap (outcome m response after) w.is_bare.result c.headers-headers.result.now key) served stood call.ensures
+                (λ m after. ReadsMap (outcome m response after) w.is_bare-bare.result c.headers-headers.result.now key) served stood call.ensures
                 (λ m after reads. inl (
                   key,
                   at,
                   inl (
                     is,
                     subst (λ v. ReadsMap (outcome m response after) v (headers_of request) key) bare
-                        (subst (λ h. ReadsMap (outcome m response after) w.is_bare.result h key) headers reads),
+                        (subst (λ h. ReadsMap (outcome m response after) w.is_bare-bare.result h key) headers reads),
                   ),
                 )),
           )

@@ -68,10 +68,10 @@ returns-clause-ok g c =
           let at : IsEntry (path_of request) key = subst (IsEntry (path_of request)) (sym w.as_str.ensures.value) entry in
           let is : IsRead (method_of request) = subst IsRead c.method.ensures (c.verb_of.ensures.read w.in-Read.is) in
           let bare : w.is_bare.result ≡ is_bare (method_of request) (headers_of request) =
-          w.is_bare.ensures ∙ (λ i. is_bare (w.method.ensures i) (w.headers.ensures i)) in
+          w.is_bare.ensures ∙ (λ i. is_bare (w.method-in-Read.ensures i) (w.headers.ensures i)) in
           rw (w.self-is, w.response-is, ← c.self.view_is) (
             refl,
-            goes_by old new (Reads o w.is_bare.result w.headers-2.result.now key) (AnsweredFor hosts of request o)
+            goes_by old new (Reads o w.is_bare.result w.headers-in-Read.result.now key) (AnsweredFor hosts of request o)
                 (λ p. inl (
                   served,
                   inl (
@@ -80,7 +80,7 @@ returns-clause-ok g c =
                     inl (
                       is,
                       subst (λ v. Reads o v (headers_of request) key) bare
-                          (subst (λ h. Reads o w.is_bare.result h key) w.headers-2.ensures p),
+                          (subst (λ h. Reads o w.is_bare.result h key) w.headers-in-Read.ensures p),
                     ),
                   ),
                 ))
@@ -92,10 +92,10 @@ returns-clause-ok g c =
           let o = outcome old w.put.new.response new in
           let at : IsEntry (path_of request) key = subst (IsEntry (path_of request)) (sym w.as_str-in-Put.ensures.value) entry in
           let is : method_of request ≡ put_method = sym c.method.ensures ∙ c.verb_of.ensures.put w.in-Put.is in
-          let body : w.as_slice.result.now ≡ body_of request = w.as_slice.ensures ∙ w.body.ensures in
+          let body : w.as_slice-in-Put.result.now ≡ body_of request = w.as_slice-in-Put.ensures ∙ w.body.ensures in
           rw (w.self-is, w.response-is, ← c.self.view_is) (
             refl,
-            goes_by old new (Puts of o w.headers-in-Put.result.now key w.as_slice.result.now) (AnsweredFor hosts of request o)
+            goes_by old new (Puts of o w.headers-in-Put.result.now key w.as_slice-in-Put.result.now) (AnsweredFor hosts of request o)
                 (λ p. inl (
                   served,
                   inl (
