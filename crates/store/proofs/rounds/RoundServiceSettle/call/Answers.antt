@@ -96,7 +96,8 @@ returns-clause-ok g c =
           rw (w.self-is, w.response-is, ← c.self.view_is) (
             refl,
             answered hosts of old (state g.S.Store call.new.conn) c.self.inside.stands call.result request response
-                (λ m after. ReadsMap (outcome m response after) w.is_bare-bare.result c.headers-headers.result.now key) served stood call.ensures
+                (λ m after. ReadsMap (outcome m response after) w.is_bare-bare.result c.headers-headers.result.now key)
+                served stood call.ensures
                 (λ m after reads. inl (
                   key,
                   at,

@@ -25,6 +25,8 @@ returns g c =
                 w.if-self.true w.if-commit_round.false w.commit_round.ensures (rw w.self-inside-is at drop.ensures),
           )
       | else-self-via-else-self w ↦
-          rw (← c.self.view_is)
-          (ap (λ service. map string_bytes service.hosts.items) w.self-inside-is, off_round old new c.self.inside.stands drop.result w.if-self.false (rw w.self-inside-is at drop.ensures))
+          rw (← c.self.view_is) (
+            ap (λ service. map string_bytes service.hosts.items) w.self-inside-is,
+            off_round old new c.self.inside.stands drop.result w.if-self.false (rw w.self-inside-is at drop.ensures),
+          )
     ]
