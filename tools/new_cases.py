@@ -57,7 +57,10 @@ def faults_of_own_crates(folder):
     made = (folder / "crates.txt").read_text().partition(MARK)[0]
     remarked = "# The library.\n" + made.replace(KEYS, "# Keys.\n" + KEYS.replace("\n", " # of maps\n"))
     own = {f"crates/{name}/src/lib.rt": f"//! {name} of the user.\n" for name in ("miniserde_ours", "turns")}
+    own |= {"docs/ours.md": "[gone](gone.md)\n", "linked.md": "A page of the user.\n"}
     write(folder, {"crates.txt": "miniserde_gone: miniserde_model\n" + remarked + MARK + OWN, "crates/miniserde_gone/src/lib.rt": "", **own})
+    (folder / "docs/FIRST-TYPE.md").unlink()
+    (folder / "docs/FIRST-TYPE.md").symlink_to("../linked.md")
     status, errors = ran("./new", "--update", folder)
     if status:
         yield f"--update ends with {status}: {errors}"
@@ -97,6 +100,13 @@ def faults_of_kept_modules(folder):
         if status != 1 or wanted not in errors or files_of(folder) != before:
             yield f"./derive of types/{name}.rs in `{crate}` ends with {status}, or changes files: {errors}"
         types.unlink()
+    write(folder, {"crates/yours/types/linked.rs": "pub struct Item { of: u64 }\n"})
+    (folder / "crates/yours/src/linked.rt").symlink_to("elsewhere.rt")
+    status, errors = ran("./derive", "yours", folder=folder)
+    if status != 1 or "which is a link" not in errors or (folder / "crates/yours/src/elsewhere.rt").exists():
+        yield f"./derive through a link ends with {status}: {errors}"
+    (folder / "crates/yours/src/linked.rt").unlink()
+    (folder / "crates/yours/types/linked.rs").unlink()
     write(folder, {"crates/yours/types/more.rs": "pub struct Item { of: u64 }\n", "crates/yours/src/more.rt": "//! More types.\n"})
     status, errors = ran("./derive", "yours", folder=folder)
     text = (folder / "crates/yours/src/more.rt").read_text()

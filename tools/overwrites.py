@@ -34,6 +34,8 @@ def overwritten(types, file):
     """Returns why a file of types may not be written to its module, or "" if it may."""
     if file.stem in ("main", "lib"):
         return f"{types}: its module would be src/{file.name}, the root of the crate: rename the file of types"
+    if file.is_symlink():
+        return f"{types}: its module would be src/{file.name}, which is a link: delete the link, or rename the file of types"
     found = by_hand(file.read_text()) if file.exists() else ""
     if not found:
         return ""
