@@ -14,6 +14,8 @@ METHODS = ("GET", "GET", "HEAD", "PUT", "PUT", "PUT", "DELETE", "POST")
 HAS_SQLITE = bool(shutil.which("sqlite3"))
 # The host that the programs are told to serve, and hosts that they are not.
 HOST, OTHER_HOSTS = "store.example", ("evil.example", "store.example.evil", "store", "127.0.0.2", "")
+# The same of targets in absolute form. What stands before an `@` is a user, not the host.
+AUTHORITIES, OTHER_AUTHORITIES = (HOST, f"{HOST}:81", HOST.upper()), ("evil.example", f"{HOST}.evil", f"{HOST}:80@evil.example")
 
 
 class Wrong(SystemExit):
@@ -34,12 +36,18 @@ class Request:
 
     def __init__(self, method, key, text=None, body="", fields=(), host=HOST):
         self.method, self.key, self.text, self.body, self.fields, self.host = method, key, text, body.encode(), tuple(fields), host
+        self.authority = ""
+
+    def is_for_another(self):
+        """Whether the request is for a host that is not served. A target in absolute form decides alone (RFC 9112, section 3.2.2)."""
+        return self.authority in OTHER_AUTHORITIES if self.authority else self.host in OTHER_HOSTS
 
     def target(self):
         return "/entries/" + urllib.parse.quote(self.key, safe="/")
 
     def sent(self):
-        lines = [f"{self.method} {self.target()} HTTP/1.1", f"Host: {self.host}", *(f"{name}: {value}" for name, value in self.fields)]
+        start = f"http://{self.authority}" if self.authority else ""
+        lines = [f"{self.method} {start}{self.target()} HTTP/1.1", f"Host: {self.host}", *(f"{name}: {value}" for name, value in self.fields)]
         if self.body:
             lines.append(f"Content-Length: {len(self.body)}")
         return "\r\n".join([*lines, "", ""]).encode() + self.body
@@ -117,7 +125,7 @@ def listed(entries, request):
 
 def answer(entries, request):
     """Returns the response of a map of entries, as status, fields and body, and the map after it."""
-    if request.host in OTHER_HOSTS:
+    if request.is_for_another():
         return (421, {}, ""), entries
     if isinstance(request, Listing):
         if request.method not in ("GET", "HEAD"):
@@ -189,4 +197,6 @@ def made_request(made, entries):
     request = made_put(made, key, fields) if method == "PUT" else Request(method, key, fields=fields)
     if made.random() < 0.05:
         request.host = made.choice(OTHER_HOSTS)
+    if made.random() < 0.1:
+        request.authority = made.choice(AUTHORITIES + OTHER_AUTHORITIES)
     return request
