@@ -12,6 +12,8 @@ import urllib.parse
 KEYS = ("nails", "rope/thin", "a b", "%", '"', "é", "€uro", "x" * 200)
 METHODS = ("GET", "GET", "HEAD", "PUT", "PUT", "PUT", "DELETE", "POST")
 HAS_SQLITE = bool(shutil.which("sqlite3"))
+# A page of the list ends with the entry that brings its keys and texts to so many bytes.
+PAGE_BYTES = 65_536
 # The host that the programs are told to serve, and hosts that they are not.
 HOST, OTHER_HOSTS = "store.example", ("evil.example", "store.example.evil", "store", "127.0.0.2", "")
 # The same of targets in absolute form. What stands before an `@` is a user, not the host.
@@ -119,7 +121,12 @@ def listed(entries, request):
     limit = "100" if request.limit is None else request.limit
     if not re.fullmatch("[0-9]{1,4}", limit) or not 1 <= int(limit) <= 1000:
         return None
-    names = sorted((key for key in entries if key.encode() >= request.key.encode()), key=str.encode)[:int(limit)]
+    names, size = [], 0
+    for name in sorted((key for key in entries if key.encode() >= request.key.encode()), key=str.encode):
+        if len(names) == int(limit) or size >= PAGE_BYTES:
+            break
+        names.append(name)
+        size += len((name + entries[name]).encode())
     return "{" + ",".join(f"{json.dumps(name, ensure_ascii=False)}:{entries[name]}" for name in names) + "}"
 
 

@@ -12,6 +12,8 @@ from store_requests import Listing, Request, answer, expect, response_from
 # What main.rt of the server says, and how much more memory it may take than the bytes that wait: for one response while it is
 # made, for blocks that grow by doubling, and for the connections.
 IDLE, MAX_WAITING, BESIDE = 30, 64 * 1024 * 1024, 160 * 1024 * 1024
+# What the page USES says that all of it is less than.
+AT_MOST = 500_000_000
 
 
 def goods(size):
@@ -37,12 +39,12 @@ def asking(server, request, room=4096):
     return made
 
 
-def lists(server, count=101, size=2_000):
-    """Puts more entries than a page has by default, and lists them to a client that takes little at once. Returns the length of the list."""
-    entries = {f"k{number:03}": goods(size) for number in range(count)}
+def lists(server, count=101, size=550):
+    """Puts more entries than a page has by default, and three that fill pages, and lists them to a client that takes little at once. Returns the length of the last list."""
+    entries = {f"k{number:03}": goods(size) for number in range(count)} | {f"large{number}": goods(60_000) for number in range(3)}
     put_all(server, entries)
-    for limit in (None, str(count)):
-        request = Listing("GET", None, limit)
+    for start, limit in ((None, None), (None, str(count)), ("large0", "3")):
+        request = Listing("GET", start, limit)
         wanted, _ = answer(entries, request)
         with asking(server, request) as client, client.makefile("rb") as stream:
             came = response_from(stream, "GET")
@@ -51,11 +53,11 @@ def lists(server, count=101, size=2_000):
 
 
 def large(program, folder):
-    """Lists more entries than a page has by default, in some 200 kB."""
+    """Lists more entries than a page has by default, and some of 120 kB."""
     with Server(program, f"{folder}/large.db") as server:
         size = lists(server)
         server.end()
-    return f"lists of 100 and 101 entries, the second of {size} bytes, to a client that takes little at once"
+    return f"lists of 100 and 101 entries, and one of {size} bytes, to a client that takes little at once"
 
 
 def idle_cost(program, folder, seconds=5):
@@ -112,7 +114,7 @@ def stalled(program, folder, count=600):
 
 
 def memory_bound(program, folder, count=990, size=60_000, limit=16):
-    """Has clients ask for a list of about a megabyte each, and take nothing: the memory stays bounded, and then each gets its list."""
+    """Has clients ask for the longest list each, and take nothing: the memory stays bounded, and then each gets its list."""
     entries = {f"k{number:02}": goods(size) for number in range(limit)}
     request = Listing("GET", None, str(limit))
     wanted, _ = answer(entries, request)
@@ -134,7 +136,9 @@ def memory_bound(program, folder, count=990, size=60_000, limit=16):
                     whole += bool(part)
                     if not part:
                         break
+        last = 1024 * server.stat("VmHWM")
         server.end()
+    expect(last < AT_MOST, f"{count} clients that took lists of {len(wanted[2])} bytes each: {last / 1e6:.0f} MB")
     expect(peak < MAX_WAITING + BESIDE, f"{count} clients that ask for {len(wanted[2])} bytes each: {peak / 1e6:.0f} MB")
     expect(whole > 0, f"none of {count} clients that took nothing for a while got its list")
-    return f"{count} clients that ask for a list of {len(wanted[2])} bytes each and take nothing: {peak / 1e6:.0f} MB; {whole} of them got it in {IDLE} s"
+    return f"{count} clients that ask for a list of {len(wanted[2])} bytes each and take nothing: {peak / 1e6:.0f} MB; {whole} of them got it in {IDLE} s, with {last / 1e6:.0f} MB"

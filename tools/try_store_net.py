@@ -27,7 +27,7 @@ import time
 from concurrent.futures import ThreadPoolExecutor
 
 from store_net import Client, Server, TriedServer, shown
-from store_requests import HAS_SQLITE, KEYS, Request, Wrong, answer, expect, made_put, made_request, response_from, rows
+from store_requests import HAS_SQLITE, HOST, KEYS, Request, Wrong, answer, expect, made_put, made_request, response_from, rows
 from try_store_ends import full_disk, killed, terminated
 from try_store_limits import idle_cost, large, lists, memory_bound, stalled
 
@@ -38,7 +38,7 @@ CONNECTIONS, IDLE, MAX_BODY = 1000, 30, 65_536
 BOUND = 0.5
 # Beside clients that send many puts at once: by them each turn may take some hundred syncs of the disk.
 FLOOD_BOUND = 2
-STATUSES = {200, 201, 204, 304, 400, 404, 405, 412, 413, 414, 431}
+STATUSES = {200, 201, 204, 304, 400, 404, 405, 412, 413, 414, 421, 431}
 
 
 def by_curl(port, method, target, body=b"", fields=()):
@@ -46,7 +46,7 @@ def by_curl(port, method, target, body=b"", fields=()):
     words = ["curl", "-s", "-i", "-g", "--max-time", "20", "--path-as-is", *(["-I"] if method == "HEAD" else ["-X", method])]
     for name, value in fields:
         words += ["-H", f"{name}: {value}"]
-    words += [f"http://127.0.0.1:{port}{target}", *(["--data-binary", "@-"] if body else [])]
+    words += ["--request-target", target, f"http://127.0.0.1:{port}", *(["--data-binary", "@-"] if body else [])]
     out = subprocess.run(words, input=body, capture_output=True, timeout=60).stdout
     came = response_from(stream := io.BytesIO(out), method)
     return response_from(stream, method) if came and came[0] == 100 else came
@@ -58,8 +58,10 @@ def each_status(program, folder):
     with Server(program, path) as server:
         for _ in range(200):
             request = made_request(made, entries)
+            request.host = request.host or HOST  # curl sends no empty field
             wanted, entries = answer(entries, request)
-            came = by_curl(server.port, request.method, request.target(), request.body, request.fields)
+            target = request.sent().split(b" ")[1].decode()
+            came = by_curl(server.port, request.method, target, request.body, [("Host", request.host), *request.fields])
             expect(came == wanted, f"{request.sent()!r}: {came}, and not {wanted}")
             met[came[0]] += 1
         many = [(f"x{number}", "y") for number in range(100)]
@@ -328,7 +330,7 @@ def made_program(folder):
 
 
 def short():
-    """Tries the server as `rt try` builds it: lists of 100 and 101 entries, of which the second is some 200 kB. Returns what it tried."""
+    """Tries the server as `rt try` builds it: lists of 100 and 101 entries, and one of 120 kB. Returns what it tried."""
     with tempfile.TemporaryDirectory(prefix="store-") as folder:
         subprocess.run([ROOT / "new", f"{folder}/made", "store"], stdout=subprocess.DEVNULL, check=True)
         with TriedServer(f"{folder}/made/crates/server", f"{folder}/short.db") as server:
