@@ -44,13 +44,21 @@ fn lists_more_than_a_hundred<S: Alter + Drop>(
     )
 }
 
-// Returns a JSON string of this many letters.
-fn long_text(rt: &HostRuntime, letters: usize) -> Result<String, Fail> {
+// Returns a text of this many letters.
+fn letters(rt: &HostRuntime, count: usize) -> Result<String, Fail> {
     let mut text = String::new(rt.alloc());
-    text.push_str("\"")?;
-    for _ in 0..letters {
+    for _ in 0..count {
         text.push_str("x")?;
     }
+    Ok(text)
+}
+
+// Returns a JSON string of this many letters.
+fn long_text(rt: &HostRuntime, count: usize) -> Result<String, Fail> {
+    let letters = letters(rt, count)?;
+    let mut text = String::new(rt.alloc());
+    text.push_str("\"")?;
+    text.push_str(letters.as_str())?;
     text.push_str("\"")?;
     Ok(text)
 }
@@ -59,8 +67,7 @@ fn long_text(rt: &HostRuntime, letters: usize) -> Result<String, Fail> {
 fn serves_long_ones<S: Alter + Drop>(rt: &HostRuntime, conn: Connection<S>) -> Result<bool, Fail> {
     let mut service = store_of(rt, conn)?;
     let text = long_text(rt, 100_000)?;
-    let key = long_text(rt, 300)?;
-    let key = &key.as_str()[1..301];
+    let key = letters(rt, 300)?;
     let line = format!(in rt.alloc(); "PUT /entries/{key}")?;
     let put = sent(
         rt,

@@ -1,5 +1,5 @@
 //! Rounds of connections, with a service that counts its calls.
-ghost use Rattle.std.specs.Prelude.{◌≡◌, ◌+◌, ◌%◌, [], ◌∷◌, true, nat_lt};
+ghost use Rattle.std.specs.Prelude.{⊤, ◌≡◌, ◌+◌, ◌%◌, [], ◌∷◌, true, nat_lt};
 ghost use Rattle.http.specs.Request.{body_of};
 ghost use Rattle.http_server.specs.Response.{IsResponse};
 
