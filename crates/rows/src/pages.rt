@@ -1,4 +1,5 @@
-//! The first rows from a key on: a page, bounded in entries and in bytes, for which no more rows are read than it has.
+//! The first rows from a key on: a page, bounded in entries and in bytes. On a connection with a limit on steps
+//! (`set_step_limit`) no more rows are read than the page has. On any other the database reads up to 512 rows ahead.
 //! If no fault of the disk is known after a call (`HasCleanDisk`), none was known before it (`clean`).
 ghost use Rattle.std.specs.Prelude.{◌≡◌, map, IfOk, OnOk, OnErr, IsTrue};
 ghost use Rattle.sqlite.specs.Held.{state};

@@ -4,7 +4,8 @@ ghost use Rattle.std.specs.Prelude.{◌≡◌, ◌⊎◌, ◌↔◌, ◌∷◌, 
 ghost use Rattle.std.specs.Prelude.{IfOk, IfErr, IfSome, OnOk, OnErr};
 ghost use Rattle.sqlite.specs.Held.{state};
 ghost use Rattle.sqlite.specs.State.{HasCleanDisk, IsUnchanged, FailsToQuery};
-ghost use Rattle.sqlite.specs.declared.error.Error.TheVariants.{QueryReturnedNoRows};
+ghost use Rattle.sqlite.specs.declared.error.Error.TheVariants.{QueryReturnedNoRows, SqliteFailure};
+ghost use Rattle.sqlite.specs.declared.error.ErrorCode.TheVariants.{Closed};
 ghost use Rattle.sqlite.specs.declared.types.Value.TheVariants.{Text};
 ghost use Rattle.rows.specs.Entries.{get_text, entry_schema, no_schema, texts_of};
 ghost use Rattle.rows.specs.Entries.{IsStore, IsMap, IsPut, IsRemoved, Holds, HasKey, AreEntries, IsCommitted, IsUndone};
@@ -264,6 +265,10 @@ pub fn has<S: Alter>(conn: &mut Connection<S>, key: &str) -> Result<bool, Error>
     // If it succeeds, the database is as it was.
     ensures same { HasCleanDisk (state S.Store conn.new) → (state S.Store conn.old).now.schema ≡ entry_schema
         → OnOk result (IsUnchanged (state S.Store conn.old) (state S.Store conn.new)) }
+
+    // The database says that it is shut only if it is.
+    ensures shut { HasCleanDisk (state S.Store conn.new) → (state S.Store conn.old).now.schema ≡ entry_schema
+        → result ≡ Err (SqliteFailure Closed) → (state S.Store conn.old).is_open ≡ false }
 
     // If it fails, the connection is as it was, or its transaction is rolled back, or it is shut.
     ensures aborts { HasCleanDisk (state S.Store conn.new)

@@ -7,7 +7,7 @@ use Rattle.http_server.specs.declared.response.Response.{Response}
 use Rattle.sqlite.specs.Effect.{Database}
 use Rattle.sqlite.specs.State.{State, HasCleanDisk}
 use Rattle.sqlite.specs.declared.error.Error.{Error}
-use Rattle.rows.specs.Entries.{entry_schema, IsStore, IsCommitted, IsBegun, IsBack, Holds, Aborts}
+use Rattle.rows.specs.Entries.{entry_schema, IsStore, IsCommitted, IsBegun, IsBack, IsServing, Keeps, Holds, Aborts}
 use Rattle.rows.proofs.Serving.{aborts_keeps, aborts_serving}
 use Rattle.store.specs.Hosts.{is_for_host}
 use Rattle.store.specs.Answered.{Codec, outcome, IsInside, IsLost, GoesIn}
@@ -159,3 +159,19 @@ off_round old new false stands is drop clean =
     let it = drop clean in
     (it.0, λ begun m off. (it.1 begun off, λ no. absurd (true≢false (sym no))))
 off_round old new true stands is drop clean = absurd (true≢false is)
+
+-- Between two rounds a connection is shut, if a query of an open one would say so.
+pub shut_between : (m : Map) (s : State) (stands : Bool) → stands ≡ true → IsBetween m s stands
+    → (s.now.schema ≡ entry_schema → s.is_open ≡ false) → s.is_open ≡ false
+shut_between m s true is serves says = by s.is_open refl
+  where
+    by : (v : Bool) → s.is_open ≡ v → s.is_open ≡ false
+    by true live = says (serves.0.1 live).1.schema
+    by false shut = shut
+shut_between m s false is off says = absurd (true≢false (sym is))
+
+-- A query changes nothing between two rounds.
+pub stays_between : (m : Map) (a b : State) (stands : Bool) → stands ≡ true → IsBetween m a stands → (IsServing a → IsServing b)
+    → (IsServing a → Keeps a b) → IsBetween m b stands
+stays_between m a b true is serves serving kept = (serving serves.0, kept_sees a b m serves.1 (kept serves.0))
+stays_between m a b false is off serving kept = absurd (true≢false (sym is))

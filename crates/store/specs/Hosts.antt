@@ -13,7 +13,7 @@ use Rattle.http_uri.specs.Uri.{uri_authority}
 abbrev pub local_hosts : List (List ℕ)
 local_hosts = codes "127.0.0.1" ∷ codes "localhost" ∷ codes "[::1]" ∷ []
 
--- the text behind a host: nothing, or a colon and a port
+-- the text behind a host: nothing, or a colon, and any text as a port
 abbrev pub ends_host : List ℕ → Bool
 ends_host [] = true
 ends_host (c ∷ rest) = c == 58

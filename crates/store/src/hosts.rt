@@ -19,7 +19,7 @@ pub fn local_hosts(alloc: Global) -> Result<Vec<String>, AllocError>
     Ok(hosts)
 }
 
-// Whether a host ends at the beginning of this text: there is none, or a port.
+// Whether a host ends at the beginning of this text: nothing follows, or a colon. What follows the colon is not looked at.
 fn ends_host(rest: &[u8]) -> bool
     ensures { result ≡ spec.ends_host rest.now }
 {

@@ -1,5 +1,5 @@
 //! The store in rounds: the changes of a round are one commit, and its responses stand once that is done.
-ghost use Rattle.std.specs.Prelude.{◌≡◌, ◌⊎◌, map, string_bytes, true, if◌then◌else◌, IsTrue, IfOk, OnErr};
+ghost use Rattle.std.specs.Prelude.{◌≡◌, ◌⊎◌, map, string_bytes, true, false, if◌then◌else◌, IsTrue, IfOk, OnErr};
 ghost use Rattle.http_server.specs.Response.{IsBlank};
 ghost use Rattle.sqlite.specs.Held.{state};
 ghost use Rattle.sqlite.specs.State.{HasCleanDisk};
@@ -22,14 +22,48 @@ use sqlite::{Alter, Connection, Error, ErrorCode};
 use std::alloc::{AllocError, Global};
 use std::marker::{Model, PhantomData};
 
-// Begins the transaction of a round, unless it has begun. Returns whether the round has one.
-fn begin_round<S: Alter>(conn: &mut Connection<S>) -> bool
+/// At most so many rounds change nothing after one that was lost.
+const LONGEST_PAUSE: u32 = 64;
+
+/// How many rounds change nothing, after rounds that were lost. So while the disk is full, clients that put and remove lose
+/// few rounds of those that read.
+#[derive(Drop)]
+struct Pause {
+    // How many rounds are still to change nothing.
+    left: u32,
+    // How many are to, if the next round with a transaction is lost.
+    next: u32,
+}
+
+impl Pause {
+    fn new() -> Pause {
+        Pause { left: 0, next: 1 }
+    }
+
+    // Notes that a round is over: whether it had a transaction, and whether it is committed.
+    fn note(&mut self, had_transaction: bool, is_committed: bool) {
+        if !is_committed {
+            self.left = self.next;
+            self.next = self.next.saturating_mul(2).min(LONGEST_PAUSE);
+        } else if had_transaction {
+            self.next = 1;
+        } else {
+            self.left = self.left.saturating_sub(1);
+        }
+    }
+}
+
+// Begins the transaction of a round, unless it has begun or there is a pause. Returns whether the round has one.
+fn begin_round<S: Alter>(conn: &mut Connection<S>, pause: u32) -> bool
     ensures { HasCleanDisk (state S.Store conn.new) → HasCleanDisk (state S.Store conn.old)
         × ((begun m : Map) → IsUnderWay begun (state S.Store conn.old) m → IsUnderWay begun (state S.Store conn.new) m
         × (IsTrue result → IsTrue (state S.Store conn.new).in_transaction)) }
 {
     if texts::is_in_transaction(conn) {
         return true;
+    }
+    if pause > 0 {
+        return false;
     }
     texts::begin(conn).is_ok()
 }
@@ -98,6 +132,7 @@ fn put_in_round<S: Alter, V: Stable + Lossless, E: Explain<V>>(
     headers: &HeaderMap,
     body: &[u8],
     response: &mut Response,
+    pause: u32,
 ) -> bool
     requires { IsBlank response.old }
     ensures { HasCleanDisk (state S.Store conn.new) → HasCleanDisk (state S.Store conn.old)
@@ -106,7 +141,7 @@ fn put_in_round<S: Alter, V: Stable + Lossless, E: Explain<V>>(
         × (IsTrue result → PutsMap (codec V.means V.tree) (outcome m response.new after)
         headers.now key.now body.now)) }
 {
-    if !begin_round(conn) {
+    if !begin_round(conn, pause) {
         response.status = StatusCode::SERVICE_UNAVAILABLE;
         return true;
     }
@@ -121,6 +156,7 @@ fn remove_in_round<S: Alter>(
     key: &str,
     headers: &HeaderMap,
     response: &mut Response,
+    pause: u32,
 ) -> bool
     requires { IsBlank response.old }
     ensures { HasCleanDisk (state S.Store conn.new) → HasCleanDisk (state S.Store conn.old)
@@ -128,7 +164,7 @@ fn remove_in_round<S: Alter>(
         × InRound begun (state S.Store conn.new) result after
         × (IsTrue result → RemovesMap (outcome m response.new after) headers.now key.now)) }
 {
-    if !begin_round(conn) {
+    if !begin_round(conn, pause) {
         response.status = StatusCode::SERVICE_UNAVAILABLE;
         return true;
     }
@@ -167,6 +203,7 @@ pub struct RoundService<S: Alter, V, E = ByValue> {
     alloc: Global,
     conn: Connection<S>,
     stands: bool,
+    pause: Pause,
     hosts: Vec<String>,
     of: PhantomData<(V, E)>,
 }
@@ -193,6 +230,7 @@ impl<S: Alter, V: Stable + Lossless, E: Explain<V>> RoundService<S, V, E> {
             alloc,
             conn,
             stands: true,
+            pause: Pause::new(),
             hosts,
             of: PhantomData,
         }
@@ -201,6 +239,16 @@ impl<S: Alter, V: Stable + Lossless, E: Explain<V>> RoundService<S, V, E> {
     /// Returns whether the database is open. It is shut if a write or a sync of its file failed, and then each response is 503
     /// until it is opened again. If a transaction is still to be rolled back, it returns true.
     pub fn is_open(&mut self) -> bool
+        // Between two rounds it returns false only if the database is shut.
+        ensures shut { HasCleanDisk (state S.Store self.new.0)
+            → (m : Map) → IsBetween m (state S.Store self.old.0) self.old.1.0 → result ≡ false
+            → (state S.Store self.old.0).is_open ≡ false }
+
+        // It changes no entry.
+        ensures between { HasCleanDisk (state S.Store self.new.0)
+            → (m : Map) → IsBetween m (state S.Store self.old.0) self.old.1.0
+            → IsBetween m (state S.Store self.new.0) self.new.1.0 }
+        ensures same { self.new.1 ≡ self.old.1 }
         ensures clean { HasCleanDisk (state S.Store self.new.0) → HasCleanDisk (state S.Store self.old.0) }
     {
         if !self.stands {
@@ -220,6 +268,7 @@ impl<S: Alter, V: Stable + Lossless, E: Explain<V>> RoundService<S, V, E> {
             alloc: _,
             conn,
             stands: _,
+            pause: _,
             hosts: _,
             of: _,
         } = self;
@@ -259,7 +308,7 @@ impl<S: Alter, V: Stable + Lossless, E: Explain<V>> Settle for RoundService<S, V
             response.status = StatusCode::NOT_FOUND;
             return Ok(());
         };
-        let (key, headers) = (key.as_str(), request.headers());
+        let (key, headers, pause) = (key.as_str(), request.headers(), self.pause.left);
         match verb_of(request.method()) {
             Verb::Read => {
                 let bare = is_bare(request.method(), headers);
@@ -281,10 +330,18 @@ impl<S: Alter, V: Stable + Lossless, E: Explain<V>> Settle for RoundService<S, V
                     headers,
                     body,
                     response,
+                    pause,
                 )
             }
             Verb::Delete => {
-                self.stands = remove_in_round(self.alloc, &mut self.conn, key, headers, response)
+                self.stands = remove_in_round(
+                    self.alloc,
+                    &mut self.conn,
+                    key,
+                    headers,
+                    response,
+                    pause,
+                )
             }
             Verb::Other => return not_allowed(response),
         }
@@ -292,10 +349,13 @@ impl<S: Alter, V: Stable + Lossless, E: Explain<V>> Settle for RoundService<S, V
     }
 
     fn settle(&mut self) -> bool {
+        let had_transaction = texts::is_in_transaction(&self.conn);
         if self.stands && commit_round(&mut self.conn) {
+            self.pause.note(had_transaction, true);
             return true;
         }
         self.stands = drop_round(&mut self.conn);
+        self.pause.note(had_transaction, false);
         false
     }
 }

@@ -1,11 +1,12 @@
 -- What the query shows, by what `sqlite` says of a query for one row.
 use Rattle.std.proofs.Common.{◌≡◌, [], ◌∷◌, Ok, rules, refl, sym, true≢false}
 use Rattle.sqlite.specs.declared.types.Value.TheVariants.{Text}
-use Rattle.sqlite.specs.declared.error.Error.TheVariants.{QueryReturnedNoRows}
+use Rattle.sqlite.specs.declared.error.Error.TheVariants.{QueryReturnedNoRows, SqliteFailure}
+use Rattle.sqlite.specs.declared.error.ErrorCode.TheVariants.{Closed}
 use Rattle.sqlite.specs.Held.{state}
 use Rattle.rows.specs.Entries.{has_text}
 use Rattle.rows.proofs.Statements.{has_query}
-use Rattle.rows.proofs.Gets.{gets, gets_none}
+use Rattle.rows.proofs.Gets.{gets, gets_none, was_shut}
 use Rattle.rows.proofs.Effects.{gets_same, gets_none_same}
 use Rattle.rows.proofs.Serving.{aborts_keeps, aborts_serving, got, got_none, got_failed, failed_for, query_aborts}
 use Rattle.rows.proofs.texts.has.Goals as goal
@@ -75,6 +76,15 @@ returns-in-Err-QueryReturnedNoRows-clause-kept g c clean s =
     let new = state g.S.Store c.query_key.new.conn in
     let missed = rw c.in-Err-QueryReturnedNoRows.field-0-is at (c.in-Err-QueryReturnedNoRows.ensures.row clean) in
     aborts_keeps old new s (got_none has_query old new c.args.key.now s missed).1
+
+pub returns-in-Err-clause-shut : goal.returns-in-Err-clause-shut
+returns-in-Err-clause-shut g c clean has is =
+    let old = state g.S.Store c.args.conn.now in
+    let new = state g.S.Store c.query_key.new.conn in
+    let other : c.in-Err.error ≡ QueryReturnedNoRows → ⊥ = search rules in
+    let shut : c.in-Err.error ≡ SqliteFailure Closed = cc in
+    was_shut has_query old new c.args.key.now c.in-Err.error has shut
+    (failed_for has_text (Text c.args.key.now ∷ []) old new c.in-Err.error other (c.in-Err.ensures.row clean))
 
 pub returns-in-Err-clause-aborts : goal.returns-in-Err-clause-aborts
 returns-in-Err-clause-aborts g c clean =
