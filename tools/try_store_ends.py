@@ -120,7 +120,11 @@ def full_disk(program, folder):
             if enlarge:
                 enlarge()
                 wanted, entries = answer(entries, request)
-                expect(ask_once(server, request) == wanted, f"the last put again, after {name} got room")
+                # A round that was lost is followed by rounds that change nothing, at most 64.
+                came = (503, {}, "")
+                for _ in range(65):
+                    came = ask_once(server, request) if came == (503, {}, "") else came
+                expect(came == wanted, f"the last put again, after {name} got room: {came}")
             told = server.end(said=LOST).count("\n")
             expect(told == lost, f"{name}: {lost} connections were closed without a response, and {told} rounds told")
         with Server(program, path) as server:
@@ -129,5 +133,5 @@ def full_disk(program, folder):
         for file in room.glob("full.db*"):
             shutil.copy(file, folder)
     expect(not HAS_SQLITE or rows(f"{folder}/full.db") == entries, f"the rows after {name}")
-    expect(entries and refused, f"{name}: no put was refused, or each")
+    expect(entries and refused > lost, f"{name}: {refused} puts were refused, {lost} of them by the end of the connection")
     return f"{name}: {len(entries)} entries, and {refused} puts answered by 503 or by the end of the connection{', and one put once there was room' if enlarge else ''}"

@@ -12,7 +12,7 @@ from store_requests import Listing, Request, answer, expect, response_from
 # What main.rt of the server says, and how much more memory it may take than the bytes that wait: for one response while it is
 # made, for blocks that grow by doubling, and for the connections.
 IDLE, MAX_WAITING, BESIDE = 30, 64 * 1024 * 1024, 160 * 1024 * 1024
-# What the page USES says that all of it is less than.
+# Half of what the page USES reckons for so many clients.
 AT_MOST = 500_000_000
 
 
@@ -58,6 +58,25 @@ def large(program, folder):
         size = lists(server)
         server.end()
     return f"lists of 100 and 101 entries, and one of {size} bytes, to a client that takes little at once"
+
+
+def page_cost(program, folder, small=74, large=512):
+    """Lists small entries before many large ones: the page ends in the first of these, and no more rows are read."""
+    entries = {f"a{number:02}": goods(0) for number in range(small)} | {f"b{number:03}": goods(65_000) for number in range(large)}
+    request = Listing("GET", None, "1000")
+    wanted, _ = answer(entries, request)
+    with Server(program, f"{folder}/page.db") as server:
+        put_all(server, entries)
+        with Client(server.port) as client:
+            before = 1024 * server.stat("VmHWM")
+            began = time.monotonic()
+            came = client.ask(request)
+            took = time.monotonic() - began
+        grew = 1024 * server.stat("VmHWM") - before
+        server.end()
+    expect(came == wanted, f"a list of {len(wanted[2])} bytes: {came and (came[0], len(came[2]))}")
+    expect(grew < 4_000_000, f"a list of {len(wanted[2])} bytes took {grew / 1e6:.1f} MB more")
+    return f"a list of {len(wanted[2])} bytes before {large} large entries: {1000 * took:.0f} ms, and {grew / 1e6:.1f} MB more"
 
 
 def idle_cost(program, folder, seconds=5):

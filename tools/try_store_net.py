@@ -29,7 +29,7 @@ from concurrent.futures import ThreadPoolExecutor
 from store_net import Client, Server, TriedServer, shown
 from store_requests import HAS_SQLITE, HOST, KEYS, Request, Wrong, answer, expect, made_put, made_request, response_from, rows
 from try_store_ends import full_disk, killed, terminated
-from try_store_limits import idle_cost, large, lists, memory_bound, stalled
+from try_store_limits import idle_cost, large, lists, memory_bound, page_cost, stalled
 
 ROOT = pathlib.Path(__file__).resolve().parent.parent
 # What main.rt of the server says.
@@ -315,7 +315,7 @@ def refused_starts(program, folder):
 
 
 TRIALS = (
-    shown_on_page, each_status, pieces, large, at_once, slow_clients, idle_cost, flood, stalled, too_many, memory_bound, killed, terminated, full_disk,
+    shown_on_page, each_status, pieces, large, page_cost, at_once, slow_clients, idle_cost, flood, stalled, too_many, memory_bound, killed, terminated, full_disk,
     refused_starts,
 )
 

@@ -30,6 +30,8 @@ fn serve<D: Disk + Drop>(
     if prepare(&mut conn).is_err() {
         return Ok(1);
     }
+    // Under a limit, which no query reaches, no row is read before it is asked for. So a page of a list costs what it shows.
+    conn.set_step_limit(Some(u64::MAX));
     let mut service: StoreService<FileStore<D>, Goods, ByField> = StoreService::new(
         rt.alloc(),
         conn,
