@@ -20,6 +20,7 @@ REFUSED = (
     ("a crate below the line that the library needs", ((KEYS, ""), (MARK, MARK + "miniserde_keys: miniserde_core\n")), "your crate `miniserde_keys`"),
     ("a folder that no line lists", ((KEYS, ""),), "crates/miniserde_keys has the name"),
     ("a crate above the line that is not of the library", ((MARK, "shop: miniserde_core\n" + MARK),), "`shop` is not a crate of the library"),
+    ("a crate of the user's whose name begins as the library's", ((MARK, "miniserde_shop: miniserde_core\n" + MARK),), "`miniserde_shop` is not a crate"),
     ("no line between the library and the rest", ((MARK, ""),), "no line `# Crates of your own"),
     ("no crate of the library above the line", ((MARK, ""), ("miniserde_model:\n", MARK + "miniserde_model:\n")), "no crate of the library above"),
 )
@@ -57,8 +58,8 @@ def faults_of_own_crates(folder):
     made = (folder / "crates.txt").read_text().partition(MARK)[0]
     remarked = "# The library.\n" + made.replace(KEYS, "# Keys.\n" + KEYS.replace("\n", " # of maps\n"))
     own = {f"crates/{name}/src/lib.rt": f"//! {name} of the user.\n" for name in ("miniserde_ours", "turns")}
-    own |= {"docs/ours.md": "[gone](gone.md)\n", "linked.md": "A page of the user.\n"}
-    write(folder, {"crates.txt": "miniserde_gone: miniserde_model\n" + remarked + MARK + OWN, "crates/miniserde_gone/src/lib.rt": "", **own})
+    own |= {"LICENSE-MIT": "All rights reserved.\n", "docs/ours.md": "[gone](gone.md)\n", "linked.md": "A page of the user.\n"}
+    write(folder, {"crates.txt": "miniserde_json: miniserde_model\n" + remarked + MARK + OWN, "crates/miniserde_json/src/lib.rt": "", **own})
     (folder / "docs/FIRST-TYPE.md").unlink()
     (folder / "docs/FIRST-TYPE.md").symlink_to("../linked.md")
     status, errors = ran("./new", "--update", folder)
@@ -68,9 +69,52 @@ def faults_of_own_crates(folder):
         yield f"--update writes another crates.txt:\n{(folder / 'crates.txt').read_text()}"
     files = files_of(folder)
     yield from (f"--update changes {name}" for name, text in own.items() if files.get(name) != text.encode())
-    if "crates/miniserde_gone/src/lib.rt" in files:
+    if "crates/miniserde_json/src/lib.rt" in files:
         yield "--update keeps a crate that the library no longer has"
     write(folder, {"crates.txt": made + MARK + OWN})
+
+
+def faults_of_places(folder, room):
+    """Updates a repository whose folders are links or whose files are the user's, and makes one where a file has the name of its room. Yields faults."""
+    for name in ("crates", "crates/miniserde_text", "docs", "tools"):
+        place, away = folder / name, room / "away"
+        place.rename(away)
+        place.symlink_to(away)
+        before = files_of(away)
+        status, errors = ran("./new", "--update", folder)
+        if status != 1 or f"{name} is a link" not in errors or files_of(away) != before:
+            yield f"--update through a link at {name} ends with {status}, or changes files there: {errors}"
+        place.unlink()
+        away.rename(place)
+    listed = (folder / "crates.txt").read_text()
+    write(folder, {"crates.txt": listed.replace(MARK, "rows: miniserde_core\n" + MARK), "crates/rows/src/lib.rt": "pub mod goods;\n"})
+    status, errors = ran("./new", "--update", folder)
+    if status != 1 or "`rows` is not a crate of the library" not in errors or not (folder / "crates/rows/src/lib.rt").exists():
+        yield f"--update over a crate `rows` of the user's ends with {status}: {errors}"
+    shutil.rmtree(folder / "crates/rows")
+    log = (folder / "CHANGELOG.md").read_text()
+    write(folder, {"crates.txt": listed})
+    write(folder, {"CHANGELOG.md": "# Changelog\n\nOf the user.\n"})
+    status, errors = ran("./new", "--update", folder)
+    if status != 1 or "CHANGELOG.md is not the library's" not in errors or "Of the user" not in (folder / "CHANGELOG.md").read_text():
+        yield f"--update over a changelog of the user's ends with {status}: {errors}"
+    write(folder, {"CHANGELOG.md": log, "linked": ""})
+    (folder / "derive").unlink()
+    (folder / "derive").symlink_to("linked")
+    status, errors = ran("./new", "--update", folder)
+    if status or (folder / "linked").read_text() or (folder / "derive").is_symlink():
+        yield f"--update where `derive` is a link ends with {status}, or writes through it: {errors}"
+    (folder / "linked").unlink()
+
+
+def faults_of_anothers(room):
+    """Makes a repository where another user has made the folder in which it would be made. Yields faults."""
+    place = room / "anothers"
+    script = 'mkdir "$1/.shop.$$"; shift; exec ./new "$@"'
+    place.mkdir()
+    status, errors = ran("sh", "-c", script, "sh", place, place / "shop")
+    if status != 1 or "File exists" not in errors or (place / "shop").exists():
+        yield f"./new over a folder that is there ends with {status}: {errors[-300:]}"
 
 
 def faults_of_refused_updates(folder):
@@ -138,7 +182,9 @@ def faults_inside():
 def faults(folder, room):
     """Tries all cases in a repository over `miniserde_core` and in an empty folder. Yields faults."""
     yield from faults_of_own_crates(folder)
+    yield from faults_of_places(folder, room)
     yield from faults_of_refused_updates(folder)
     yield from faults_of_kept_modules(folder)
     yield from faults_of_unfinished(room)
+    yield from faults_of_anothers(room)
     yield from faults_inside()
