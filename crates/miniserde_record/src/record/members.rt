@@ -1,10 +1,11 @@
 //! Writes lent values as the members of an object.
-ghost use Rattle.std.specs.Prelude.{◌≡◌, ◌++◌, true, List, [], ◌∷◌, Option, Some, OnOk, OnErr, IsErrOf, map};
+ghost use Rattle.std.specs.Prelude.{◌≡◌, ◌++◌, ◌&&◌, true, false, List, [], ◌∷◌, Option, Some, OnOk, OnErr, IsErrOf, map};
 ghost use Rattle.miniserde_model.specs.Tree.{Tree, members};
 ghost use Rattle.miniserde_model.specs.InRange.{MembersInRange};
 ghost use Rattle.miniserde_model.specs.declared.error.Error.TheVariants.{Memory};
 ghost use Rattle.miniserde_ser.specs.Writer.{WritesTree};
 ghost use Rattle.miniserde_record.specs.InOrder.{names_rise, KeepsTreesNormal};
+ghost use Rattle.miniserde_record.specs.Marks.{has_no_members};
 ghost use Rattle.miniserde_record.specs.Structs.{with_names, members_text};
 
 use super::structs::Parts;
@@ -28,6 +29,9 @@ pub trait Members {
         ensures normal { OnOk result (KeepsTreesNormal w.old
             (with_names (map (λ n. n.now) names.now) (trees self.now)) w.new) }
         ensures unrefused { OnOk result (w.new.refused ≡ w.old.refused) }
+        ensures later { OnOk result (w.old.first ≡ false → w.new.first ≡ false) }
+        ensures first { OnOk result (w.new.first
+            ≡ (has_no_members (with_names (map (λ n. n.now) names.now) (trees self.now)) && w.old.first)) }
         ensures memory { OnErr result (IsErrOf result Memory) }
         ensures err { OnErr result (w.new.refused ≡ true) };
 }
