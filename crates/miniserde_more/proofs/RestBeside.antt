@@ -55,15 +55,15 @@ module _ (ns : List Name) where
   own_part (member k t fs) rs a n = rw a.0 (ap (member k t) (own_part fs rs a.1 n))
 
   -- members of some of the names
-  pub all_named : (names : List Name) (ts : List (Option Tree)) → ((k : Name) → is_among names k ≡ true → is_among ns k ≡ true)
+  pub all_of_names : (names : List Name) (ts : List (Option Tree)) → ((k : Name) → is_among names k ≡ true → is_among ns k ≡ true)
       → AllOwn (with_names names ts)
-  all_named [] ts h = tt
-  all_named (n ∷ names) [] h = tt
-  all_named (n ∷ names) (None ∷ ts) h = all_named names ts (λ k e. h k (later n names k e))
+  all_of_names [] ts h = tt
+  all_of_names (n ∷ names) [] h = tt
+  all_of_names (n ∷ names) (None ∷ ts) h = all_of_names names ts (λ k e. h k (later n names k e))
     where
       later : (n : Name) (names : List Name) (k : Name) → is_among names k ≡ true → is_among (n ∷ names) k ≡ true
       later n names k e = elim (bytes_eq k n) as (λ b. (b || is_among names k) ≡ true) [ true ↦ refl | false ↦ e ]
-  all_named (n ∷ names) (Some t ∷ ts) h = (h n (rw (same n) refl), all_named names ts (λ k e. h k (later n names k e)))
+  all_of_names (n ∷ names) (Some t ∷ ts) h = (h n (rw (same n) refl), all_of_names names ts (λ k e. h k (later n names k e)))
     where
       later : (n : Name) (names : List Name) (k : Name) → is_among names k ≡ true → is_among (n ∷ names) k ≡ true
       later n names k e = elim (bytes_eq k n) as (λ b. (b || is_among names k) ≡ true) [ true ↦ refl | false ↦ e ]

@@ -51,7 +51,8 @@ module _ {K V : Type 0} (text : K → Name) (ns : List Name) where
         at : (q : Name) → rest_content text ns content fs q ≡ with_entry (λ k. k) (rest_content text ns content es) (text k) (content v) q
         at q = content-kept fs q ∙ ap (λ f. cond (is_among ns q) None (f q)) all
             ∙ elim (bytes_eq (text k) q) as (λ b. bytes_eq (text k) q ≡ b → cond (is_among ns q) None
-            (cond b (Some (present_key_or (map_content (λ k. k) text content es q) (text k), content v)) (map_content (λ k. k) text content es q))
+            (cond b (Some (present_key_or (map_content (λ k. k) text content es q) (text k), content v))
+            (map_content (λ k. k) text content es q))
             ≡ cond b (Some (present_key_or (rest_content text ns content es q) (text k), content v)) (rest_content text ns content es q)) [
               | true ↦ λ b.
                   let own : is_among ns q ≡ false = subst (λ z. is_among ns z ≡ false) (equal_if_tested _ _ b) other in

@@ -6,7 +6,7 @@ use Rattle.miniserde_ser.specs.Trees.{members_of}
 use Rattle.miniserde_record.specs.Structs.{are_distinct, with_names}
 use Rattle.miniserde_laws.proofs.Named.{one_trees}
 use Rattle.miniserde_more.specs.Rest.{others, kept, members_then}
-use Rattle.miniserde_more.proofs.RestBeside.{AllOwn, NoneOwn, own, own_part, other_part, all_named, none_kept}
+use Rattle.miniserde_more.proofs.RestBeside.{AllOwn, NoneOwn, own, own_part, other_part, all_of_names, none_kept}
 
 module _ {K V W : Type 0} (text : K → Name) (ns : List Name) (f : V → Tree) (trees : W → List (Option Tree))
     (distinct : are_distinct ns ≡ true) (each : (w : W) → length (trees w) ≡ length ns) where
@@ -18,7 +18,7 @@ module _ {K V W : Type 0} (text : K → Name) (ns : List Name) (f : V → Tree) 
       ≡ members (members_then (with_names ns (trees b)) (behind gs)) → (trees a ≡ trees b) × (behind es ≡ behind gs)
   same_parts a b es gs e =
       let same : members_then (with_names ns (trees a)) (behind es) ≡ members_then (with_names ns (trees b)) (behind gs) = cc in
-      let all : (w : W) → AllOwn ns (with_names ns (trees w)) = λ w. all_named ns ns (trees w) (λ k h. h) in
+      let all : (w : W) → AllOwn ns (with_names ns (trees w)) = λ w. all_of_names ns ns (trees w) (λ k h. h) in
       let none : (es : List (K × V)) → NoneOwn ns (behind es) = λ es. none_kept ns text f es in
       let fields : with_names ns (trees a) ≡ with_names ns (trees b) =
       sym (own_part ns (with_names ns (trees a)) (behind es) (all a) (none es)) ∙ ap (own ns) same

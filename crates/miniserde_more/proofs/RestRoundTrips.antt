@@ -11,7 +11,7 @@ use Rattle.miniserde_record.specs.Structs.{with_names, FieldsRoundTrip}
 use Rattle.miniserde_laws.specs.RoundTrip.{RoundTrips}
 use Rattle.miniserde_more.specs.Rest.{others, kept, members_then, name_keys, rest_members, rest_tree}
 use Rattle.miniserde_more.specs.RestMeaning.{IsOpen, with_rest}
-use Rattle.miniserde_more.proofs.RestBeside.{NoneOwn, other_part, all_named, none_kept, reads_open, kept_fits}
+use Rattle.miniserde_more.proofs.RestBeside.{NoneOwn, other_part, all_of_names, none_kept, reads_open, kept_fits}
 
 module _ {K V M W : Type 0} (text : K → Name) (ns : List Name) (m : Meaning V) (entries : M → List (K × V)) (n : FieldsMeaning W)
     (open_n : IsOpen n) (map_valid : M → Type 0) (f : V → Tree) (valid : W → Type 0) (trees : W → List (Option Tree))
@@ -38,7 +38,7 @@ module _ {K V M W : Type 0} (text : K → Name) (ns : List Name) (m : Meaning V)
       let fs = with_names ns (trees v.1) in
       let rs = of_entries (kept text ns (entries v.0)) in
       let none : NoneOwn ns rs = none_kept ns text f (entries v.0) in
-      let apart : others ns (members_then fs rs) ≡ rs = other_part ns fs rs (all_named ns ns (trees v.1) (λ k h. h)) none in
+      let apart : others ns (members_then fs rs) ≡ rs = other_part ns fs rs (all_of_names ns ns (trees v.1) (λ k h. h)) none in
       let a = back (only v.0) (only_valid v.0 r) in
       let same : of_entries (entries (only v.0)) ≡ rs = ap of_entries (only_kept v.0) in
       let met : Means rs (entries a.0.0) = subst (λ ms. Means ms (entries a.0.0)) same a.0.2 in (

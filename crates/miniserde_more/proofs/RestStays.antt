@@ -25,7 +25,7 @@ use Rattle.miniserde_record.specs.Fields.{StructReads}
 use Rattle.miniserde_record.specs.Marks.{is_among}
 use Rattle.miniserde_record.specs.Structs.{with_names}
 use Rattle.miniserde_more.specs.Rest.{others, kept, members_then, name_keys}
-use Rattle.miniserde_more.proofs.RestBeside.{AllOwn, all_named, kept_sorted}
+use Rattle.miniserde_more.proofs.RestBeside.{AllOwn, all_of_names, kept_sorted}
 
 module _ (ns : List Name) (q : Name) (other : is_among ns q ≡ false) where
   -- a member of one of the names has another name
@@ -113,7 +113,7 @@ stays {K} text ns f of R cmp agrees normal q other ts es sorted ms reads =
     let there : K → Bool = λ k. bytes_eq (text k) q in
     let met : IsValueOf R (last_of q (others ns ms)) (lookup there (kept text ns es)) =
     last_name text R of (members (others ns ms)) (kept text ns es) reads there q (λ k. refl) in
-    last_behind ns q other (with_names ns ts) (members_of text f (kept text ns es)) (all_named ns ns ts (λ k h. h))
+    last_behind ns q other (with_names ns ts) (members_of text f (kept text ns es)) (all_of_names ns ns ts (λ k h. h))
     ∙ last_written text f q cmp agrees (kept text ns es) (kept_sorted ns text cmp es sorted)
     ∙ normal_there R f normal (last_of q ms) (lookup there (kept text ns es))
     (subst (λ o. IsValueOf R o (lookup there (kept text ns es))) (last_other ns q other ms) met)

@@ -57,13 +57,15 @@ module _ {K V : Type 0} (text : K → Name) (f : V → Tree) (ns : List Name) wh
       [ true ↦ written_other es e h | false ↦ ap (member (text d.0) (f d.1)) (written_other es e h) ]
 
   -- what a turn that writes an entry appends
-  pub text_step : (es : List (K × V)) (e : K × V) (b : Bool) (pre : List ℕ) {now : Bool} {old mid new : List ℕ} → is_among ns (text e.0) ≡ false
+  pub text_step : (es : List (K × V)) (e : K × V) (b : Bool) (pre : List ℕ) {now : Bool} {old mid new : List ℕ}
+      → is_among ns (text e.0) ≡ false
       → old ≡ pre ++ members_text b (written es) → now ≡ (has_no_members (written es) && b)
       → mid ≡ old ++ ((cond now [] (44 ∷ []) ++ string_text (text e.0)) ++ 58 ∷ []) → new ≡ mid ++ compact (f e.1)
       → new ≡ pre ++ members_text b (written (es ++ e ∷ []))
   text_step es e b pre {now = now} h is first m w =
       rw (w, m, is, written_other es e h, text_then b (written es) (member (text e.0) (f e.1) no_members), sym first)
-      (elim now as (λ c. ((pre ++ members_text b (written es)) ++ ((cond c [] (44 ∷ []) ++ string_text (text e.0)) ++ 58 ∷ [])) ++ compact (f e.1)
+      (elim now as (λ c. ((pre ++ members_text b (written es)) ++ ((cond c [] (44 ∷ []) ++ string_text (text e.0)) ++ 58 ∷ []))
+      ++ compact (f e.1)
       ≡ pre ++ (members_text b (written es) ++ members_text c (member (text e.0) (f e.1) no_members))) [
         | true ↦ rw (append-nil {A = ℕ}) (simp append_assoc refl)
         | false ↦ rw (append-nil {A = ℕ}) (simp append_assoc refl)

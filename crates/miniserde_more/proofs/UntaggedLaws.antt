@@ -9,7 +9,7 @@ use Rattle.miniserde_enum.specs.declared.one_of.OneOf.TheVariants.{First, Later}
 use Rattle.miniserde_enum.specs.Cases.{CaseValid, case_content}
 use Rattle.miniserde_laws.specs.RoundTrip.{RoundTrips}
 use Rattle.miniserde_stored.specs.Stable.{IsStable}
-use Rattle.miniserde_more.specs.Kinds.{Kinds, OfKinds, kind_of, either_kinds, apart}
+use Rattle.miniserde_more.specs.Kinds.{Kinds, OfKinds, tree_kind, either_kinds, apart}
 use Rattle.miniserde_more.specs.Untagged.{first_content, first_of, FirstReads, either_tree}
 use Rattle.miniserde_more.specs.laws.Kinds.{not_in_other, is_of_kind, no_first}
 use Rattle.miniserde_more.specs.laws.Untagged.{later-iff}
@@ -20,7 +20,7 @@ module _ {T C : Type 0} (valid : T → Type 0) (tree : T → Tree) (reads : Tree
     (content : T → C) (agrees : (t : Tree) (x : T) → reads t x ↔ (of t ≡ Some (content x)))
     (round_trips : (x : T) → valid x → RoundTrips valid tree reads (tree x)) (a : Kinds) (only : OfKinds a of) where
   -- the tree of a valid value is of one of the kinds
-  pub tree_of_kind : (x : T) → valid x → a (kind_of (tree x)) ≡ true
+  pub tree_of_kind : (x : T) → valid x → a (tree_kind (tree x)) ≡ true
   tree_of_kind x r =
       let h = round_trips x r in
       is_of_kind a of only (tree x) (content h.0.0) ((agrees (tree x) h.0.0).0 h.0.2)
@@ -56,18 +56,18 @@ module _ {T C : Type 0} (valid : T → Type 0) (tree : T → Tree) (reads : Tree
 -- ---- the injective tree
 
 module _ {T W : Type 0} (valid : T → Type 0) (tree : T → Tree) (a : Kinds)
-    (of_kind : (x : T) → valid x → a (kind_of (tree x)) ≡ true) (valid_w : W → Type 0) (tree_w : W → Tree) (b : Kinds)
-    (of_kind_w : (w : W) → valid_w w → b (kind_of (tree_w w)) ≡ true) where
+    (of_kind : (x : T) → valid x → a (tree_kind (tree x)) ≡ true) (valid_w : W → Type 0) (tree_w : W → Tree) (b : Kinds)
+    (of_kind_w : (w : W) → valid_w w → b (tree_kind (tree_w w)) ≡ true) where
   pub either_of_kind : (v : OneOf T W) → CaseValid valid valid_w v
-      → either_kinds a b (kind_of (either_tree tree tree_w v)) ≡ true
+      → either_kinds a b (tree_kind (either_tree tree tree_w v)) ≡ true
   either_of_kind (First x) r = rw (of_kind x r) refl
-  either_of_kind (Later w) r = elim (a (kind_of (tree_w w))) as (λ z. (z || b (kind_of (tree_w w))) ≡ true)
+  either_of_kind (Later w) r = elim (a (tree_kind (tree_w w))) as (λ z. (z || b (tree_kind (tree_w w))) ≡ true)
       [ true ↦ refl | false ↦ of_kind_w w r ]
 
   apart-trees : apart a b ≡ true → (x : T) (w : W) → valid x → valid_w w → tree x ≡ tree_w w → ⊥
   apart-trees d x w r s e =
-      true≢false (sym (of_kind_w w s) ∙ ap (λ t. b (kind_of t)) (sym e)
-      ∙ not_in_other a b d (kind_of (tree x)) (of_kind x r))
+      true≢false (sym (of_kind_w w s) ∙ ap (λ t. b (tree_kind t)) (sym e)
+      ∙ not_in_other a b d (tree_kind (tree x)) (of_kind x r))
 
   pub untagged-same : {C D : Type 0} (content : T → C) (content_w : W → D)
       → ((x y : T) → valid x → valid y → tree x ≡ tree y → content x ≡ content y)
@@ -83,7 +83,7 @@ module _ {T W : Type 0} (valid : T → Type 0) (tree : T → Tree) (a : Kinds)
 -- ---- the normal form
 
 -- the normal form of a tree is of the tree's kind
-pub norm_kind : (t : Tree) → kind_of (norm t) ≡ kind_of t
+pub norm_kind : (t : Tree) → tree_kind (norm t) ≡ tree_kind t
 norm_kind null = refl
 norm_kind (truth b) = refl
 norm_kind (nonneg n) = refl

@@ -15,26 +15,26 @@ pub data ValueKind : Type 0 where
   object : ValueKind
 
 -- the kind of a tree
-abbrev pub kind_of : Tree → ValueKind
-kind_of tree.null = null
-kind_of (truth b) = boolean
-kind_of (nonneg n) = number
-kind_of (neg z) = number
-kind_of (num x) = number
-kind_of (str s) = string
-kind_of (list ts) = array
-kind_of (members ms) = object
+abbrev pub tree_kind : Tree → ValueKind
+tree_kind tree.null = null
+tree_kind (truth b) = boolean
+tree_kind (nonneg n) = number
+tree_kind (neg z) = number
+tree_kind (num x) = number
+tree_kind (str s) = string
+tree_kind (list ts) = array
+tree_kind (members ms) = object
 
 -- the kind of the values that begin with a token
-abbrev pub kind_of_token : Event → ValueKind
-kind_of_token event.Null = null
-kind_of_token (event.Bool b) = boolean
-kind_of_token (event.Negative z) = number
-kind_of_token (event.Nonnegative n) = number
-kind_of_token (event.Number x) = number
-kind_of_token (event.Str t) = string
-kind_of_token event.SeqStart = array
-kind_of_token event.MapStart = object
+abbrev pub token_kind : Event → ValueKind
+token_kind event.Null = null
+token_kind (event.Bool b) = boolean
+token_kind (event.Negative z) = number
+token_kind (event.Nonnegative n) = number
+token_kind (event.Number x) = number
+token_kind (event.Str t) = string
+token_kind event.SeqStart = array
+token_kind event.MapStart = object
 
 -- ---- sets of kinds
 
@@ -85,7 +85,7 @@ apart a b =
 
 -- `of` returns no content for a tree of another kind
 pub record OfKinds {C : Type 0} (kinds : Kinds) (of : Tree → Option C) : Type 0 where
-  pub none : (t : Tree) → kinds (kind_of t) ≡ false → of t ≡ None
+  pub none : (t : Tree) → kinds (tree_kind t) ≡ false → of t ≡ None
 
 -- Worked cases: strings and arrays have no kind in common, and a number is of the kind of an optional number.
 pub strings_and_arrays : apart string_kind array_kind ≡ true

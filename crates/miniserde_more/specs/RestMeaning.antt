@@ -23,7 +23,8 @@ with_rest text ns m entries n = record {
   State = MapContent m.Content × n.State;
   empty = (no_entries, n.empty);
   count = n.count;
-  next_state = λ names s k t. option_and_then (λ x. option_map (λ r. (r, x)) (rest_member ns m.from_tree s.0 k t)) (n.next_state ns s.1 k t);
+  next_state = λ names s k t.
+      option_and_then (λ x. option_map (λ r. (r, x)) (rest_member ns m.from_tree s.0 k t)) (n.next_state ns s.1 k t);
   refuses = λ names s k. n.refuses ns s.1 k;
   refuses_agrees = λ names s k h t. ap (option_and_then (λ x. option_map (λ r. (r, x)) (rest_member ns m.from_tree s.0 k t)))
       (n.refuses_agrees ns s.1 k h t);

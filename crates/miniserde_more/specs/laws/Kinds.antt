@@ -6,7 +6,7 @@ use Rattle.miniserde_model.specs.Tree as tree
 use Rattle.miniserde_read.specs.types.Options.{option_of}
 use Rattle.miniserde_enum.specs.laws.Cases.{both}
 use Rattle.miniserde_more.specs.Kinds.{ValueKind, null, boolean, number, string, array, object}
-use Rattle.miniserde_more.specs.Kinds.{Kinds, OfKinds, kind_of, null_kind, either_kinds, apart, apart_at}
+use Rattle.miniserde_more.specs.Kinds.{Kinds, OfKinds, tree_kind, null_kind, either_kinds, apart, apart_at}
 
 -- P, unless the test holds
 abbrev pub Unless : Bool → Type 0 → Type 0
@@ -25,7 +25,7 @@ module _ {C : Type 0} (kinds : Kinds) (of : Tree → Option C) (a : Unless (kind
     (f : (s : List ℕ) → Unless (kinds string) (of (str s) ≡ None))
     (g : (ts : Trees) → Unless (kinds array) (of (list ts) ≡ None))
     (h : (ms : Members) → Unless (kinds object) (of (members ms) ≡ None)) where
-  none_by_tree : (t : Tree) → kinds (kind_of t) ≡ false → of t ≡ None
+  none_by_tree : (t : Tree) → kinds (tree_kind t) ≡ false → of t ≡ None
   none_by_tree tree.null i = given_unless (kinds null) _ a i
   none_by_tree (truth x) i = given_unless (kinds boolean) _ (b x) i
   none_by_tree (nonneg n) i = given_unless (kinds number) _ (c n) i
@@ -41,7 +41,7 @@ module _ {C : Type 0} (kinds : Kinds) (of : Tree → Option C) (a : Unless (kind
   by_tree = record { none = none_by_tree }
 
 module _ {C : Type 0} (kinds : Kinds) (of : Tree → Option C) (h : OfKinds kinds of) where
-  none_of_option : (t : Tree) → either_kinds null_kind kinds (kind_of t) ≡ false → option_of of t ≡ None
+  none_of_option : (t : Tree) → either_kinds null_kind kinds (tree_kind t) ≡ false → option_of of t ≡ None
   none_of_option tree.null e = absurd (cc)
   none_of_option (truth x) e = rw (h.none (truth x) e) refl
   none_of_option (nonneg n) e = rw (h.none (nonneg n) e) refl
@@ -77,16 +77,16 @@ not_in_other a b h k = one_alone (a k) (b k) (each_apart a b h k)
 
 -- if `of` gives a content for a tree, the tree is of one of the kinds
 pub is_of_kind : {C : Type 0} (kinds : Kinds) (of : Tree → Option C) → OfKinds kinds of → (t : Tree) (c : C)
-    → of t ≡ Some c → kinds (kind_of t) ≡ true
-is_of_kind {C} kinds of h t c e = elim (kinds (kind_of t)) as (λ b. kinds (kind_of t) ≡ b → kinds (kind_of t) ≡ true)
+    → of t ≡ Some c → kinds (tree_kind t) ≡ true
+is_of_kind {C} kinds of h t c e = elim (kinds (tree_kind t)) as (λ b. kinds (tree_kind t) ≡ b → kinds (tree_kind t) ≡ true)
     [ true ↦ λ i. i | false ↦ λ i. let n = h.none t i in absurd (cc) ] refl
 
 -- a tree that gives a content for the later variants gives none for the first
 pub no_first : {C D : Type 0} (a b : Kinds) (f : Tree → Option C) (g : Tree → Option D) → OfKinds a f → OfKinds b g
     → apart a b ≡ true → (t : Tree) (d : D) → g t ≡ Some d → f t ≡ None
 no_first a b f g h k apart t d e =
-    elim (a (kind_of t)) as (λ z. a (kind_of t) ≡ z → f t ≡ None) [
+    elim (a (tree_kind t)) as (λ z. a (tree_kind t) ≡ z → f t ≡ None) [
       | true ↦ λ i.
-          absurd (true≢false (sym (is_of_kind b g k t d e) ∙ not_in_other a b apart (kind_of t) i))
+          absurd (true≢false (sym (is_of_kind b g k t d e) ∙ not_in_other a b apart (tree_kind t) i))
       | false ↦ λ i. h.none t i
     ] refl

@@ -7,7 +7,7 @@ use Rattle.miniserde_enum.specs.declared.one_of.Never.{Never}
 use Rattle.miniserde_enum.specs.declared.one_of.OneOf.TheVariants.{First, Later}
 use Rattle.miniserde_enum.specs.Cases.{case_content}
 use Rattle.miniserde_more.specs.Untagged.{first_content, first_of, FirstReads}
-use Rattle.miniserde_more.specs.Kinds.{Kinds, OfKinds, kind_of, no_kinds, either_kinds}
+use Rattle.miniserde_more.specs.Kinds.{Kinds, OfKinds, tree_kind, no_kinds, either_kinds}
 
 -- ---- by the two contents
 
@@ -53,7 +53,7 @@ neither false b e = (refl, e)
 pub of-first : {C D : Type 0} (a b : Kinds) (f : Tree → Option C) (g : Tree → Option D) → OfKinds a f → OfKinds b g
     → OfKinds (either_kinds a b) (first_of f g)
 of-first a b f g h k =
-    record { none = λ t e. let n = neither (a (kind_of t)) (b (kind_of t)) e in rw (h.none t n.0, k.none t n.1) refl }
+    record { none = λ t e. let n = neither (a (tree_kind t)) (b (tree_kind t)) e in rw (h.none t n.0, k.none t n.1) refl }
 
 -- no variant is of no kind
 pub of-none : OfKinds {C = Never} no_kinds (λ t. None)

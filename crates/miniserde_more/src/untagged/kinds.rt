@@ -1,6 +1,6 @@
 //! Sets of kinds of JSON values, as types, and the trait of types whose trees are of some kinds alone.
 ghost use Rattle.std.specs.Prelude.{◌≡◌};
-ghost use Rattle.miniserde_more.specs.Kinds.{Kinds, OfKinds, kind_of_token, either_kinds, null_kind, boolean_kind, number_kind};
+ghost use Rattle.miniserde_more.specs.Kinds.{Kinds, OfKinds, token_kind, either_kinds, null_kind, boolean_kind, number_kind};
 ghost use Rattle.miniserde_more.specs.Kinds.{string_kind, array_kind, object_kind};
 
 use miniserde_read::FromJson;
@@ -14,7 +14,7 @@ pub trait KindSet {
 
     /// Returns whether the value that begins with the token is of one of the kinds.
     fn has(token: Event<'_>) -> bool
-        ensures { result ≡ kinds (kind_of_token token.entry) };
+        ensures { result ≡ kinds (token_kind token.entry) };
 }
 
 /// A type that is read from JSON values of some kinds alone, so that the first token of a value tells that it is not

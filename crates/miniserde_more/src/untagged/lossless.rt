@@ -3,7 +3,7 @@ ghost use Rattle.std.specs.Prelude.{◌≡◌, ◌&&◌, Bool, true, ⊤};
 ghost use Rattle.miniserde_model.specs.Tree.{Tree, null};
 ghost use Rattle.miniserde_read.specs.Meaning.{Meaning};
 ghost use Rattle.miniserde_enum.specs.Cases.{CaseValid};
-ghost use Rattle.miniserde_more.specs.Kinds.{Kinds, kind_of, no_kinds, either_kinds, apart};
+ghost use Rattle.miniserde_more.specs.Kinds.{Kinds, tree_kind, no_kinds, either_kinds, apart};
 ghost use Rattle.miniserde_more.specs.Untagged.{either_tree, untagged_tree};
 ghost use Rattle.miniserde_more.specs.UntaggedMeaning.{no_untagged, untagged_and};
 
@@ -35,7 +35,7 @@ pub trait LosslessUntagged {
     /// Does nothing. It promises that the tree of a valid value is of one of the kinds. If no two variants have a kind
     /// in common, it promises that valid values with the same tree have the same content.
     fn lossless()
-        ensures of_kinds { (v : Self.Values) → valid v → kinds (kind_of (tree v)) ≡ true }
+        ensures of_kinds { (v : Self.Values) → valid v → kinds (tree_kind (tree v)) ≡ true }
         ensures same { disjoint ≡ true → (v w : Self.Values) → valid v → valid w → tree v ≡ tree w
             → meaning.content v ≡ meaning.content w };
 }

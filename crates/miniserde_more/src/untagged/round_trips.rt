@@ -4,7 +4,7 @@ ghost use Rattle.miniserde_model.specs.Tree.{Tree, null};
 ghost use Rattle.miniserde_read.specs.Meaning.{Meaning};
 ghost use Rattle.miniserde_enum.specs.Cases.{CaseValid};
 ghost use Rattle.miniserde_laws.specs.RoundTrip.{RoundTrips};
-ghost use Rattle.miniserde_more.specs.Kinds.{Kinds, OfKinds, kind_of, no_kinds, either_kinds, apart};
+ghost use Rattle.miniserde_more.specs.Kinds.{Kinds, OfKinds, tree_kind, no_kinds, either_kinds, apart};
 ghost use Rattle.miniserde_more.specs.Kinds as kind;
 ghost use Rattle.miniserde_more.specs.Untagged.{either_tree, untagged_tree};
 ghost use Rattle.miniserde_more.specs.UntaggedMeaning.{no_untagged, untagged_and};

@@ -19,7 +19,8 @@ returns g c =
       ok = object_text fs rs c.args.w.now.text (ap (λ s. s.text) opened) (ap (λ s. s.first) opened) fields.ok fields.first rest.ok
           (ap (λ s. s.text) closed);
       in_range = range_then fs rs fields.all_in_range rest.all_in_range;
-      normal = λ n. absurd (true≢false (sym (fields.normal (rest.normal (sym (ap (λ s. s.normal) closed) ∙ n))).0 ∙ ap (λ s. s.normal) opened));
+      normal = λ n. absurd (true≢false
+          (sym (fields.normal (rest.normal (sym (ap (λ s. s.normal) closed) ∙ n))).0 ∙ ap (λ s. s.normal) opened));
       first = ap (λ s. s.first) closed;
       unrefused = ap (λ s. s.refused) closed ∙ c.in_ok-map_finish.ensures.was_running;
       was_running = c.in_ok-map.ensures.was_running;

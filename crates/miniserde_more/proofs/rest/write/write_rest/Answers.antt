@@ -21,7 +21,8 @@ loop-name-preserved-in-Continue-branch-2 g c =
     let at = rw named at c.in_ok-key.ensures.appends.ok in
     rw (map-append deref_pair c.loop-name.yielded ((c.in-Some.name, c.in-Some.value) ∷ [])) (record {
       is = text_step string_bytes f names done entry first c.args.w.now.text other inv.is inv.first (ap (λ s. s.text) at) wrote.ok;
-      all_in_range = range_step string_bytes f names done entry other inv.all_in_range (rw named at c.in_ok-key.ensures.utf8) wrote.in_range;
+      all_in_range = range_step string_bytes f names done entry other inv.all_in_range
+          (rw named at c.in_ok-key.ensures.utf8) wrote.in_range;
       first = first_step string_bytes f names done entry first other (wrote.first (ap (λ s. s.first) at));
       normal = λ n. inv.normal (sym (ap (λ s. s.normal) at) ∙ (wrote.normal n).0);
       refused = wrote.unrefused ∙ sym c.in_ok-key.ensures.appends.was_running ∙ inv.refused;

@@ -4,4 +4,5 @@ use Rattle.miniserde_more.proofs.rest.open.MarkedSlotOpenFields.open.Goals as go
 
 pub returns : goal.returns
 returns g c = λ names s k t h.
-    field_open (record { once = g.M.Repeats.once; of = g.T.FromJson.means.from_tree; later = g.R.Slots.meaning.next_state }) c.open.ensures names s k t h
+    field_open (record { once = g.M.Repeats.once; of = g.T.FromJson.means.from_tree; later = g.R.Slots.meaning.next_state })
+    c.open.ensures names s k t h

@@ -5,4 +5,8 @@ use Rattle.miniserde_more.proofs.rest.open.OmitSlotOpenFields.open.Goals as goal
 
 pub returns : goal.returns
 returns g c = λ names s k t h.
-    field_open (record { once = g.M.Repeats.once; of = (option_meaning g.T.FromJson.means).from_tree; later = g.R.Slots.meaning.next_state }) c.open.ensures names s k t h
+    field_open (record {
+      once = g.M.Repeats.once;
+      of = (option_meaning g.T.FromJson.means).from_tree;
+      later = g.R.Slots.meaning.next_state;
+    }) c.open.ensures names s k t h
