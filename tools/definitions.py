@@ -4,8 +4,10 @@ from dataclasses import dataclass, field, replace
 
 from faults import Faults, Refused
 from fields import check_refused, looked_into
+from kinds import check_adjacent, check_untagged, mark_kinds
 from lines import lines_of
 from omitted import check_omitted, mark_never_null
+from rests import check_rests
 from parts import INTEGER, MARK, PUBLIC, Part, check_defaults, name_defaults, part_of, spellings, variant_field
 from refusals import (
     NAME, check_cycles, check_derives, check_foreign_marks, check_inside, check_keys, check_lossless, check_newtype, check_param, check_params, check_places, check_stable, check_tagged,
@@ -19,12 +21,13 @@ from serde import in_words, with_words
 class Definition:
     """A struct, a newtype, an enum without data, or a tagged enum, whose variants may have data. A newtype has one part, `0`. `above` are the lines above it, without
     its derives, and `params` the names of its parameters. `style` is the style of its parts' names in JSON, "" for none.
-    `tag` is the name of the member that names the variant, None for a struct and for an enum that is externally tagged.
+    `tag` is the name of the member that names the variant, None for a struct and for an enum that is externally tagged, and
+    `content` that of the member that has the data of a variant, None if its members stand beside the tag.
     `shown` is what messages call it: of the struct that is written for a variant's fields the variant. `never_null` says that
     a field that may be left out needs the law that the type is not written as `null`, and `bounded` are the parameters of which
     it does. `has_laws` says that the type's crate has the crate of the round trip, and `has_stored` that it has the one of stable
     types. `check` is the function that says which values a newtype takes, "" for one that takes all, and `module` its module.
-    `looked_into` are the structs of the file whose fields are looked for one by one. `faulty` says that a line of it was refused.
+    `looked_into` are the structs of the file whose fields are looked for one by one. `may_be_null` says that an untagged enum has the kind of `null`, or may have it. `faulty` says that a line of it was refused.
     """
 
     kind: str
@@ -37,6 +40,8 @@ class Definition:
     params: tuple = ()
     style: str = ""
     tag: str = None
+    content: str = None
+    may_be_null: bool = False
     parts: list = field(default_factory=list)
     variant: str = ""
     never_null: bool = False
@@ -55,14 +60,14 @@ class Definition:
 
 USE = re.compile(r"(?:pub )?use [A-Za-z0-9_:{}*, ]+;")
 DERIVE = re.compile(r"#\[derive\(([^)]*)\)\]")
-WORD = r'(?:once|closed|lossless|stable|events|inside|refused|(?:rename_all|tag)\b(?:"[^"]*"|[^",])*)'
+WORD = r'(?:once|closed|lossless|stable|events|inside|kinds|untagged|refused|(?:rename_all|tag|content)\b(?:"[^"]*"|[^",])*)'
 WORDS = rf"\s*//\s*({WORD}(?:,\s*{WORD})*)"
 PARAMS = r"(?:<([^{}]*)>)?"
 NO_TYPE = re.compile(r"(?:pub(?:\([a-z ]+\))?\s+)?(impl|fn|const|static|mod|type|trait|extern|unsafe|macro_rules!)(?=\W|$)")
 BEGUN = re.compile(rf"{PUBLIC}(struct|enum|union)\s+({NAME})")
 HEAD = re.compile(rf"{PUBLIC}(struct|enum)\s+({NAME})\s*{PARAMS}\s*\{{(?:{WORDS})?")
 NEWTYPE = re.compile(rf"{PUBLIC}struct\s+({NAME})\s*{PARAMS}\s*\(\s*{PUBLIC}(.+?)\s*,?\s*\);(?:\s*//\s*(.*))?")
-NEWTYPE_WORD = re.compile(rf"lossless|stable|key|text|events|check\s+((?:{NAME}::)?{NAME})")
+NEWTYPE_WORD = re.compile(rf"lossless|stable|key|text|events|kinds|check\s+((?:{NAME}::)?{NAME})")
 # A comment that has words or marks alone.
 ALONE = re.compile(rf"""//\s*(?:{WORD}|{NEWTYPE_WORD.pattern}|{MARK.pattern.rpartition("(?:,")[0]})(?:,.*)?""")
 
@@ -79,6 +84,16 @@ def style_of(kind, words, line):
             raise Refused(f'line {line}: the names have one style: leave out {word}, or `rename_all "{style}"`')
         style = found.group(1)
     return style
+
+
+def content_of(tag, words, line):
+    """The name of the member beside the tag that the words of a type ask for, None for none."""
+    if not words:
+        return None
+    found = re.fullmatch(r'content\s+"([^"\\]*)"', words[0])
+    if not found or len(words) > 1 or tag is None or found.group(1) == tag:
+        raise Refused(f'line {line}: beside a tag one member of another name has the data: write `tag "kind", content "data"`: {", ".join(words)}')
+    return found.group(1)
 
 
 def tag_of(kind, words, line):
@@ -104,11 +119,12 @@ def head_of(bare, line, above):
         words = [word.strip() for word in re.findall(WORD, words or "")]
         renames = [word for word in words if word.startswith("rename_all")]
         tags = [word for word in words if word.startswith("tag")]
-        words = tuple(word for word in words if word not in [*renames, *tags])
+        contents = [word for word in words if word.startswith("content")]
+        words = tuple(word for word in words if word not in [*renames, *tags, *contents])
         params, style, tag = params_of(params or "", bare, line), style_of(kind, renames, line), tag_of(kind, tags, line)
-        return Definition(kind, name, line, above, derives, public or "", words, params, style, tag)
+        return Definition(kind, name, line, above, derives, public or "", words, params, style, tag, content_of(tag, contents, line))
     if re.match(rf"{PUBLIC}(?:struct|enum)\s+{NAME}\s*{PARAMS}\s*\{{\s*//", bare):
-        raise Refused(f'line {line}: behind a type stand words, with commas between: once, closed, lossless, stable, events, inside, refused, tag "kind", rename_all "camelCase": {bare}')
+        raise Refused(f'line {line}: behind a type stand words, with commas between: once, closed, lossless, stable, events, inside, kinds, untagged, refused, tag "kind", content "data", rename_all "camelCase": {bare}')
     if re.match(rf"{PUBLIC}struct\s+{NAME}\s*(?:<[^{{(]*>)?\s*\(", bare):
         raise Refused(f"line {line}: a struct of unnamed values has one, and stands on one line: `struct Name(Type);`, as `struct Name((A, B));`: {bare}")
     if re.match(rf"{PUBLIC}struct\s+{NAME}\s*;", bare):
@@ -131,7 +147,7 @@ def newtype_of(bare, line, above):
     for word in split_at_commas(text or ""):
         fits = NEWTYPE_WORD.fullmatch(word)
         if not fits:
-            raise Refused(f"line {line}: behind a newtype stand words, with commas between: lossless, stable, key, check FUNCTION, text, events: {word}")
+            raise Refused(f"line {line}: behind a newtype stand words, with commas between: lossless, stable, key, check FUNCTION, text, events, kinds: {word}")
         words, check = (*words, word.split()[0]), fits.group(1) or check
     above = [it for it in above if not DERIVE.fullmatch(it)]
     it = Definition("newtype", name, line, above, derives, public or "", words, params_of(params or "", bare, line))
@@ -259,13 +275,13 @@ def with_structs(it):
     for part in it.parts if it.kind == "enum" else []:
         if part.fields:
             params = tuple(name for name in it.params if any(re.search(rf"(?<![\w:]){name}\b", each.of) for each in part.fields))
-            words = tuple(word for word in it.words if word in ("lossless", "stable")) + (("inside",) if it.tag is not None else ())
+            words = tuple(word for word in it.words if word in ("lossless", "stable")) + (("inside",) if it.tag is not None and it.content is None else ()) + (("kinds",) if "untagged" in it.words else ())
             made = Definition("struct", it.name + part.name, part.line, [f"/// The fields of `{it.name}::{part.name}`."], [], it.public, words, params)
             made.variant = f"{it.name}::{part.name}"
             made.parts = [replace(each, public=it.public, above=[line for line in each.above if line.startswith("//")]) for each in part.fields]
             part.of = f"{made.name}<{', '.join(params)}>" if params else made.name
             structs.append(made)
-    if (it.tag is not None or any(part.of for part in it.parts)) and it.kind == "enum":
+    if (it.tag is not None or "untagged" in it.words or any(part.of for part in it.parts)) and it.kind == "enum":
         it.kind = "tagged"
     return [*structs, it]
 
@@ -273,9 +289,9 @@ def with_structs(it):
 def mark_inside(found, known):
     """Marks the structs that are the data of an internally tagged enum of the file. Yields the faults of its variants."""
     for it in found:
-        for part in it.parts if it.tag is not None else []:
+        for part in it.parts if it.tag is not None and it.content is None else []:
             yield from check_inside(it, part, {each.name: each for each in found}, known)
-    tagged = {name.group() for it in found if it.tag is not None for part in it.parts if (name := re.match(NAME, part.of))}
+    tagged = {name.group() for it in found if it.tag is not None and it.content is None for part in it.parts if (name := re.match(NAME, part.of))}
     for it in found:
         if it.name in tagged and it.kind == "struct" and "inside" not in it.words:
             it.words += ("inside",)
@@ -291,7 +307,8 @@ def check(found, uses, left_out):
     faults, named = Faults(), [*found, *left_out]
     known = names_known(named, uses)
     foreign = names_known(named, [line for line in uses if not re.match(r"(?:pub )?use (?:std|core|alloc)::", line)])
-    faults += mark_inside(found, known)
+    mark_kinds(found)
+    faults += [*mark_inside(found, known), *check_untagged(found), *check_adjacent(found)]
     for it in found:
         faults += [*check_foreign_marks(it), *check_tagged(it), *check_written(it), *check_params(it, known)]
     for it in named:
@@ -300,7 +317,7 @@ def check(found, uses, left_out):
         for part in it.parts:
             faults.seen(check_type, part.of, {*names, "char"} if it.kind == "newtype" else names, part.line)
     faults += [*check_defaults(found), *check_cycles(found), *check_omitted(found, uses), *check_places(found, uses)]
-    faults += [*check_keys(found), *check_stable(found, uses), *check_lossless(found, uses), *check_refused(found)]
+    faults += [*check_keys(found), *check_stable(found, uses), *check_lossless(found, uses), *check_refused(found), *check_rests(found)]
     mark_never_null(found)
     name_defaults(found)
     for it in found:

@@ -8,6 +8,7 @@ def cases_of(it, parts):
         return "NoCase"
     rest = cases_of(it, parts[1:])
     data = parts[0].of or "NoFields" * (it.tag is not None)
+    data = f"Content<{typed(it)}, {data}>" if it.content is not None and parts[0].of else data
     return f"DataCase<{data}, {rest}>" if data else f"UnitCase<{rest}>"
 
 
@@ -37,6 +38,13 @@ def data_text(it, part):
     names = ", ".join(names_in(part))
     if it.tag is not None and not part.of:
         return "NoFields {}"
+    if it.content is not None:
+        return f"Content {{ value: {inner_text(it, part, names)}, of: _ }}"
+    return inner_text(it, part, names)
+
+
+def inner_text(it, part, names):
+    """The data of a variant with its values by their names, as a pattern, without what stands around it."""
     return f"{it.name}{part.name} {{ {names} }}" if part.fields else names if len(part.values) == 1 else f"({names})"
 
 
@@ -46,6 +54,8 @@ def case_clause(it, at, part):
     data = names[0] if len(part.values) == 1 else f"({', '.join(names)})" if names else "tt" if it.tag is None else "(record { })"
     if part.fields:
         data = f"(record {{ {'; '.join(f'{quoted(field.name)} = {name}' for field, name in zip(part.fields, names))} }})"
+    if it.content is not None and part.of:
+        data = f"(record {{ value = {data}; of = record {{}} }})"
     return f"{' '.join([quoted(part.name), *names])} ↦ {'later_case (' * at}first_case {data}{')' * at}"
 
 
@@ -63,9 +73,9 @@ def each_clause(parts, text):
     return f"each_case _ (λ x. {text(parts[0])}) ({each_clause(parts[1:], text)})"
 
 
-def made_clause(parts):
+def made_clause(parts, data="x"):
     """The clause that makes the enum of each value of a variant."""
-    return each_clause(parts, lambda part: " ".join([quoted(part.name), *data_names(part, "x")]))
+    return each_clause(parts, lambda part: " ".join([quoted(part.name), *data_names(part, data)]))
 
 
 def bijective_clause(parts):
@@ -111,7 +121,7 @@ def variants_text(it, path):
 
 {wrapped("values", f"elim [ {values} ]")}
 
-{wrapped("made", made_clause(it.parts))}
+{wrapped("made", made_clause(it.parts, "x.value" if it.content is not None else "x"))}
 
 {wrapped("bijective", bijective_clause(it.parts))}
 
@@ -145,7 +155,32 @@ const {const}: &[&str] = &["{it.tag}"];
         {const}
     }}
 }}
+{content_text(it, path)}"""
+
+
+def content_text(it, path):
+    """The impl that has the name of the member beside the tag."""
+    if it.content is None:
+        return ""
+    const = content_const(it)
+    return f"""
+const {const}: &[&str] = &["{it.content}"];
+
+{impl_of(it, "FromJson")} HasContent for {typed(it)} {{
+    ghost use Rattle.{path}.TheConstants.{{{const}}};
+
+    ghost content = {{ codes "{it.content}" }};
+
+    fn content() -> &'static [&'static str] {{
+        {const}
+    }}
+}}
 """
+
+
+def content_const(it):
+    """The constant of the name of the member beside the tag."""
+    return const_of(it.name).removesuffix("_NAMES") + "_CONTENT"
 
 
 def reading_text(it):
@@ -171,6 +206,9 @@ def reading_text(it):
 def written_of(it, part, writer):
     """The call that writes a variant."""
     tag = f'"{it.tag}", ' if it.tag is not None else ""
+    if it.content is not None and part.values:
+        value = "a" if len(part.values) == 1 else f"&({', '.join(names_in(part))})"
+        return f'write_tagged_fields({writer}, {tag}"{part.written}", {content_const(it)}, &Parts({value}, ()))'
     if part.fields or tag and not part.of:
         const = const_of(it.name + part.name) if part.fields else "&[]"
         return f'{{ write{"_tagged" * bool(tag)}_fields({writer}, {tag}"{part.written}", {const}, &{lent_of(part.fields)}) }}'

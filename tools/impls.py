@@ -136,6 +136,8 @@ def laws_text(it, kind, types):
 """
     round_trip = law("round_trips", impl_of(it, "RoundTrip"), "RoundTrip", "aliased" if aliased else None) if it.has_laws else ""
     lossless = law("lossless", lossless_impl(it), "Lossless") if "lossless" in it.words else ""
+    if "untagged" in it.words:
+        never_null = "" if it.may_be_null else law("never_null", impl_of(it, "RoundTrip"), "NeverNull")
     never_null = never_null if it.has_laws and ("lossless" in it.words or it.never_null) else ""
     return round_trip + lossless + never_null + (law("stable", impl_of(it, "Stable"), "Stable") if "stable" in it.words else "")
 

@@ -3,7 +3,7 @@ import re
 
 from definitions import names_known
 from newtypes import checks_of
-from refusals import IMPORTED, NAME, NAMED, OF_LAWS, OF_REFUSED
+from refusals import IMPORTED, NAME, NAMED, OF_LAWS, OF_MORE, OF_REFUSED, more_words
 
 KEYS = [f"{sign}{bits}" for sign in "ui" for bits in "8 16 32 64 size".split()]
 # Definitions and lemmas, by the name that `miniserde` gives their file.
@@ -29,6 +29,8 @@ OF_CASES = ("Cases", "CasesMeaning")
 OF_PLACES = ("Place", "PlaceMeanings")
 # The files that `miniserde_core` leaves to a crate of laws, with their places there.
 OF_LAW_SPECS = {"ExactKeys": "miniserde_stored.specs.laws.Exact"}
+# Definitions and lemmas of `miniserde_more`, by the name of their file there.
+OF_MORE_SPECS = {"Rest": "rest_tree", "Untagged": "untagged_tree", "UntaggedMeaning": "untagged_meaning", "laws.Kinds": "by_tree"}
 
 
 def place_of(facade, spec):
@@ -52,6 +54,7 @@ def uses_of(found, text, facade, crate):
             picked = ", ".join(filter(None, [picked, "str"]))
         if picked:
             uses.append(f"ghost use Rattle.{place_of(facade, spec)}.{{{picked}}};")
+    uses += [f"ghost use Rattle.miniserde_more.specs.{spec}.{{{pick(names)}}};" for spec, names in OF_MORE_SPECS.items() if pick(names)]
     enums = any(it.kind == "enum" for it in found)
     prelude = ["true", "List", "codes", "[]", "◌∷◌", "⊤"] if enums else ["true"] if "truth true" in text else []
     prelude += ["codes"] if any(it.tag is not None for it in found) and "codes" not in prelude else []
@@ -62,7 +65,9 @@ def uses_of(found, text, facade, crate):
     prelude += ["Some"] if has("TextValue") else []
     prelude += [name for name in ("option_map", "string_bytes") if has(name)]
     uses.append(f"ghost use Rattle.std.specs.Prelude.{{{', '.join([*prelude, 'refl'])}}};")
-    of_laws = {**(OF_LAWS if facade == "miniserde_core" else {}), **(OF_REFUSED if any("refused" in it.words for it in found) else {})}
+    of_laws = dict(OF_LAWS) if facade == "miniserde_core" else {}
+    of_laws |= OF_REFUSED if any("refused" in it.words for it in found) else {}
+    of_laws |= OF_MORE if any(more_words(it) for it in found) else {}
     apart = {name for names in of_laws.values() for name in names.split()}
     ghosts, imports = checks_of(found, crate)
     uses += [*ghosts, "", *imports, f"use miniserde::derived::{{{pick(' '.join(name for name in NAMED.split() if name not in apart))}}};"]

@@ -3,11 +3,11 @@ import re
 
 # The traits whose impls it writes.
 TRAITS = set(
-    "Checked CheckedLeaf Clone DataEnum Deserialize ExactKey FieldByField FromJson Given HasAliases HasTag InjectiveKey Inside Leaf Lossless "
-    "MapKey NeverNull PlacedRecord Ranged Record RoundTrip Serialize Stable Transparent UnitEnum Visitor".split()
+    "Checked CheckedLeaf Clone DataEnum Deserialize ExactKey FieldByField FromJson Given HasAliases HasContent HasKinds HasTag InjectiveKey Inside Leaf "
+    "Lossless MapKey NeverNull PlacedRecord Ranged Record RoundTrip Serialize Stable Transparent UnitEnum UntaggedEnum Visitor".split()
 )
 # Comments, imports, declarations, and the ends of items of several lines.
-WRITTEN = re.compile(r"$|\s|//|(?:ghost )?use |#\[derive\(|(?:pub )?(?:struct|enum) |type \w+|const [A-Z0-9_]+: |where$|[\])}>]")
+WRITTEN = re.compile(r"$|\s|//|(?:ghost )?use |#\[derive\(|(?:pub )?(?:struct|enum|type) |const [A-Z0-9_]+: |where$|[\])}>]")
 IMPL = re.compile(r"impl\b(?:<.*?>)?\s+(\w+)(?:<.*>)?\s+for\b", re.S)
 IMPORT = re.compile(r"^use miniserde(?:_core)?::derived::", re.M)
 

@@ -9,8 +9,8 @@ from serde import in_words, with_words
 
 PUBLIC = r"(pub(?:\([a-z ]+\))?\s+)?"
 VARIANT = re.compile(rf"({NAME})\s*(?:\((.*)\)|\{{(.*)\}}|(\{{))?,?")
-MARKS = re.compile(r'//\s*((?:once|default|omit|refused|alias|rename|rename_all)\b.*)$')
-MARK = re.compile(r'\s*(?:(once|omit|refused)|default(?:\s+(-?\d[\d_]*|true|false|[A-Z][A-Za-z0-9]*|"[^"\\]*"))?|(rename|alias)\s+"([^"\\]*)")\s*(?:,|$)')
+MARKS = re.compile(r'//\s*((?:once|default|omit|refused|rest|alias|rename|rename_all)\b.*)$')
+MARK = re.compile(r'\s*(?:(once|omit|refused|rest)|default(?:\s+(-?\d[\d_]*|true|false|[A-Z][A-Za-z0-9]*|"[^"\\]*"))?|(rename|alias)\s+"([^"\\]*)")\s*(?:,|$)')
 INTEGER = re.compile(r"[ui](8|16|32|64|size)")
 
 
@@ -20,7 +20,7 @@ class Part:
 
     `above` are the lines of comments and attributes above it. `default` is the text of the value of a missing field, ""
     for the empty one and None for no such value, and `default_written` its name in JSON if it is a variant; `omit` says that
-    `None` is not written, `refused` that the field's own fields are looked for, and `aliases` are other names that it is read by. A variant with data has `values`, the types in its round brackets, or named
+    `None` is not written, `rest` that the field keeps the members that no other one takes, `refused` that the field's own fields are looked for, and `aliases` are other names that it is read by. A variant with data has `values`, the types in its round brackets, or named
     `fields`; `of` is the type of its data.
     """
 
@@ -35,6 +35,7 @@ class Part:
     default_written: str = ""
     omit: bool = False
     refused: bool = False
+    rest: bool = False
     aliases: tuple = ()
     values: tuple = ()
     fields: list = field(default_factory=list)
@@ -70,7 +71,7 @@ def marks_of(kind, text, line):
     while text:
         found = MARK.match(text)
         if not found:
-            raise Refused(f'line {line}: not a mark (`once`, `default VALUE`, `omit`, `refused`, `rename "x"`, `alias "x"`): {text.strip()}')
+            raise Refused(f'line {line}: not a mark (`once`, `default VALUE`, `omit`, `refused`, `rest`, `rename "x"`, `alias "x"`): {text.strip()}')
         if found.group(1):
             words.add(found.group(1))
         elif found.group(3) == "rename":
@@ -82,7 +83,7 @@ def marks_of(kind, text, line):
             default = default if default.startswith('"') else default.replace("_", "")
         text = text[found.end() :]
     if kind == "enum" and (words or default is not None or aliases):
-        raise Refused(f"line {line}: a variant has `rename` alone: `once`, `default`, `omit`, `refused` and `alias` mark fields")
+        raise Refused(f"line {line}: a variant has `rename` alone: `once`, `default`, `omit`, `refused`, `rest` and `alias` mark fields")
     return words, default, rename, aliases
 
 
@@ -99,6 +100,7 @@ def part_of(kind, text, line, above, style):
         raise Refused(f"line {line}: a comment that is no mark stands on a line of its own, above the field: {text}")
     part = field_of(bare, line, above, style) if kind == "struct" else variant_of(bare, line, above, style)
     part.once, part.omit, part.refused, part.default, part.aliases = "once" in words, "omit" in words, "refused" in words, default, aliases
+    part.rest = "rest" in words
     part.written = part.written if rename is None else rename
     return part
 

@@ -29,6 +29,13 @@ OF_LAWS = {
 OF_REFUSED = {"refused": "FieldByField FieldPath NamesOf NoProbe Probe ProbeInto ProbeIntoOption Probes Way fields_give"}
 # Those of places, which `miniserde_core` has not.
 OF_PLACED = "CheckedLeaf Deserialize Field Four LeafPlace NamePlace NoField OnceField OnceFour PlacedRecord RecordPlace Visitor checked_from_step"
+# Those of `miniserde_more`, by their module, which code names that is derived of a type with one of its words.
+OF_MORE = {
+    "miniserde_more::adjacent": "Content HasContent",
+    "miniserde_more::rest": "OpenFields WithRest rest_lossless rest_round_trips rest_stable write_members_and_rest",
+    "miniserde_more::untagged": "ArrayKind BooleanKind EitherKind HasKinds NullKind NumberKind ObjectKind StringKind UntaggedCases UntaggedEnum WrittenUntagged "
+    "read_untagged untagged_lossless untagged_never_null untagged_round_trips untagged_stable",
+}
 # Names of Rust's prelude and of the clauses, which derived code uses as they are.
 OF_RUST = "Box Err List None Ok Option Self Some String Vec"
 
@@ -196,10 +203,17 @@ def check_written(it):
             seen.setdefault(name, part)
 
 
+def more_words(it):
+    """The words and marks of a type that want the crate `miniserde_more`."""
+    words = [word for word in ("untagged", "kinds") if word in it.words]
+    return words + (["content"] if it.content is not None else []) + (["rest"] if any(part.rest for part in it.parts) else [])
+
+
 def check_type_names(found, printed_for):
     """Refuses types whose names derived code has; `printed_for` returns the names that are written for a type."""
     lines = {}
     refused = " ".join(OF_REFUSED.values()) if any("refused" in it.words for it in found) else ""
+    refused += " " + " ".join(OF_MORE.values()) if any(more_words(it) for it in found) else ""
     for it in found:
         if it.name in [*NAMED.split(), *OF_RUST.split(), *refused.split()]:
             yield f"line {it.line}: derived code uses the name `{it.name}`: call the type otherwise, its JSON stays"

@@ -9,10 +9,8 @@ USE = re.compile(r"(?:pub )?use serde(?:_derive)?\b")
 # What stands for attributes that are not read.
 INSTEAD = {
     "borrow": "a value owns its text, so leave the attribute out",
-    "content": "write a struct with the kind as an enum without data, and the data in `Option`s",
     "bound": "each impl has the bounds that it needs, so leave the attribute out",
     "deserialize_with": "write a newtype with the word `text`",
-    "flatten": "write the fields of the inner struct; to keep members of any name, read the text once more as a `miniserde::json::Value` (docs/USES.md)",
     "from": "write a newtype, as `struct Name(u8);`, and convert where it is used",
     "other": "an unknown variant is invalid: write a struct with the kind as a `String`",
     "rename_all_fields": "write `rename` above the fields",
@@ -20,7 +18,6 @@ INSTEAD = {
     "skip": "leave the field out",
     "skip_deserializing": "make the field an `Option`",
     "skip_serializing": "write a struct of its own for what is written, without the field",
-    "untagged": "write a struct with the data of each variant in an `Option`, or keep it as a `miniserde::json::Document`",
     "with": "write a newtype with the word `text`",
 }
 # What is written where an attribute that is read elsewhere is not.
@@ -36,8 +33,10 @@ ELSEWHERE = {
 # Where each attribute that is read may stand.
 OF = {
     "alias": ("field",),
+    "content": ("enum",),
     "default": ("field",),
     "deny_unknown_fields": ("struct",),
+    "flatten": ("field",),
     "into": ("newtype",),
     "rename": ("field", "variant"),
     "rename_all": ("struct", "enum"),
@@ -45,6 +44,7 @@ OF = {
     "tag": ("enum",),
     "transparent": ("newtype",),
     "try_from": ("newtype",),
+    "untagged": ("enum",),
 }
 
 
@@ -86,10 +86,12 @@ def word_for(part, of, inner, line):
     return {
         "default": "default",
         "deny_unknown_fields": "closed",
+        "flatten": "rest",
         "into": "check",
         "skip_serializing_if": "omit",
         "transparent": "",
         "try_from": "check",
+        "untagged": "untagged",
     }.get(name, f"{name} {value}")
 
 

@@ -1,0 +1,11 @@
+pub mod RestBeside
+pub mod RestDues
+pub mod RestKept
+pub mod RestLossless
+pub mod RestRoundTrips
+pub mod RestSkipped
+pub mod RestStable
+pub mod RestStays
+pub mod RestTexts
+pub mod UntaggedFirsts
+pub mod UntaggedLaws
