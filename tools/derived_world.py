@@ -37,6 +37,10 @@ class World:
         """The file of a module."""
         return self.root / "crates" / path[0] / "src" / ("/".join(path[1:]) + ".rt")
 
+    def is_derived(self, path):
+        """Whether a module is derived: it has a file of types."""
+        return len(path) == 2 and (self.root / "crates" / path[0] / "types" / f"{path[1]}.rs").is_file()
+
     def module(self, path):
         """The module at a path of a crate and modules."""
         path = tuple(path)
