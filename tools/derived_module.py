@@ -45,9 +45,9 @@ class Module:
         word = cursor.take()
         if word == "ghost":
             cursor.take("use")
-            self.words |= paths_of(cursor.until(";"), ".")
+            self.bring(self.words, paths_of(cursor.until(";"), "."), cursor)
         elif word == "use":
-            self.uses |= paths_of(cursor.until(";"), "::")
+            self.bring(self.uses, paths_of(cursor.until(";"), "::"), cursor)
         elif word in ("struct", "enum"):
             shape = shape_at(cursor, word, docs)
             self.add(self.shapes, shape.name, shape, cursor)
@@ -63,6 +63,12 @@ class Module:
             self.take_impl(impl, cursor)
         else:
             cursor.refuse(f"an item that this reader does not know: `{word}`")
+
+    def bring(self, names, paths, cursor):
+        """Adds the names of an import, unless there is another of one of them."""
+        for name, path in paths.items():
+            if names.setdefault(name, path) != path:
+                cursor.refuse(f"a second `{name}`: `{path}` and `{names[name]}`")
 
     def add(self, items, name, item, cursor):
         """Adds an item, unless there is one of its name."""
