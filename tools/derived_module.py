@@ -67,12 +67,14 @@ class Module:
     def bring(self, names, paths, cursor):
         """Adds the names of an import, unless there is another of one of them."""
         for name, path in paths.items():
+            if "*" in path or re.search(r"\bas\b", path):
+                cursor.refuse(f"an import that this reader does not follow: `{path}`")
             if names.setdefault(name, path) != path:
                 cursor.refuse(f"a second `{name}`: `{path}` and `{names[name]}`")
 
     def add(self, items, name, item, cursor):
         """Adds an item, unless there is one of its name."""
-        if name in items:
+        if name in items or name in OF_RUST:
             cursor.refuse(f"a second `{name}`")
         items[name] = item
 
@@ -103,6 +105,9 @@ class Module:
             raise Refused(f"{self.name}: line {impl.line}: an impl of `{trait}`, which this reader does not know")
         if trait != "Clone":
             self.of_library(trait, impl.line)
+        for name, path in [(name, path) for tokens in impl.uses for name, path in paths_of(tokens, ".").items()]:
+            if name in HOMES or "*" in path:
+                self.refuse(impl.line, f"`{trait}` for `{impl.target}` has its own `{name}`: `{path}`")
         if tuple(str(it) for it in impl.target.args) != impl.params and trait in READ - {"Given"}:
             raise Refused(f"{self.name}: line {impl.line}: an impl of `{trait}` for some of the types `{impl.target}` only")
         self.add(self.impls, (trait, impl.target.name), impl, cursor)

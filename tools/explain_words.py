@@ -6,13 +6,13 @@ from schema import schema_text
 
 def answer(root, words):
     """The text that the words of a command line ask for, None if they ask for something else."""
-    match words:
-        case ["--explain", "--write", crate]:
-            return "".join(f"{file.relative_to(root)}\n" for file in write_pages(root, crate))
-        case ["--explain", crate] | ["--explain", crate, _] if not crate.startswith("-"):
-            return explained(root, crate, *words[2:])
-        case ["--schema", crate, name] if not crate.startswith("-"):
-            return schema_text(root, crate, name)
-        case ["--explain" | "--schema", *_]:
-            raise Refused("write `--explain CRATE`, `--explain CRATE TYPE`, `--explain --write CRATE` or `--schema CRATE TYPE`")
-    return None
+    if words[:1] not in (["--explain"], ["--schema"]):
+        return None
+    word, *rest = words
+    if word == "--explain" and len(rest) == 2 and rest[0] == "--write":
+        return "".join(f"{file.relative_to(root)}\n" for file in write_pages(root, rest[1]))
+    if word == "--explain" and len(rest) in (1, 2) and not rest[0].startswith("-"):
+        return explained(root, *rest)
+    if word == "--schema" and len(rest) == 2 and not rest[0].startswith("-"):
+        return schema_text(root, *rest)
+    raise Refused("write `--explain CRATE`, `--explain CRATE TYPE`, `--explain --write CRATE` or `--schema CRATE TYPE`")

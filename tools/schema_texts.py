@@ -74,6 +74,7 @@ class Maker:
     def __init__(self, schema, source):
         self.schema, self.definitions, self.source = schema, schema.get("$defs", {}), source
         self.names = sorted({*NAMES, *self.words(schema)})
+        self.groups = [*self.groups_in(schema)]
 
     def words(self, schema):
         """The names and texts that a schema has."""
@@ -85,6 +86,24 @@ class Maker:
         elif isinstance(schema, list):
             for it in schema:
                 yield from self.words(it)
+
+    def groups_in(self, schema):
+        """The members that each object of a schema may have."""
+        inside = schema.values() if isinstance(schema, dict) else schema if isinstance(schema, list) else []
+        if isinstance(schema, dict) and isinstance(schema.get("properties"), dict):
+            yield schema["properties"]
+        for it in inside:
+            yield from self.groups_in(it)
+
+    def member(self, tree):
+        """A name and a value, most of the time of a member that an object with these members may have too."""
+        pick = self.source
+        near = [it for it in self.groups if any(name in it for name in tree)]
+        if near and pick.random() < 0.7:
+            group = pick.choice(near)
+            name = pick.choice([*group])
+            return name, self.example(group[name])
+        return pick.choice(self.names), pick.choice([*tree.values(), self.value()])
 
     def example(self, schema):
         """A value that a schema takes, as far as `anyOf`, `properties` and bounds say."""
@@ -146,8 +165,9 @@ class Maker:
     def value(self):
         """Any value: one of the list, a name, or a value that a check accepts or refuses."""
         pick = self.source
-        if pick.random() < 0.2:
-            return pick.choice(self.names)
+        turn = pick.random()
+        if turn < 0.3:
+            return pick.choice(self.names) if turn < 0.2 else None
         return pick.choice(VALUES) if pick.random() < 0.9 else pick.choice([it for each in (GOOD, BAD) for values in each.values() for it in values])
 
     def changed(self, tree):
@@ -163,7 +183,8 @@ class Maker:
             elif turn < 0.8:
                 found[pick.choice(self.names)] = found.pop(name)
             else:
-                found[pick.choice(self.names)] = pick.choice([found[name], self.value()])
+                name, value = self.member(found)
+                found[name] = value
             return found
         if isinstance(tree, list) and tree and pick.random() < 0.85:
             found, at = list(tree), pick.randrange(len(tree))
