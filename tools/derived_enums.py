@@ -76,7 +76,7 @@ def values_in(module, impl, line):
     """Where `values` of an enum puts each variant: its place in the list by its name, the names of its values, and their term."""
     term, found = term_in(module, impl, "values"), {}
     if not isinstance(term, Elim):
-        module.refuse(line, f"`values` of `{impl.target}` does not go by variants")
+        module.refuse(line, f"`values` of `{impl.target}` does not list the variants")
     for (name, *names), now in term.cases:
         at = 0
         while args := called(module, now, "later_case", line):
@@ -104,11 +104,11 @@ def word_of(module, trait, member, of, line):
 
 
 def parts_of(module, shape, form, args, line, is_written):
-    """What `means` or `tree` of an enum goes by: the list of variants, the tag, and the names."""
+    """What `means` or `tree` of an enum names: the list of variants, the tag, and the names."""
     args, (_, read, _, write) = list(args), FORMS[form]
     trait = "UntaggedEnum" if form == "untagged" else "DataEnum"
     if ghost_of(module, args.pop(), trait, "values", line) != whole(shape):
-        module.refuse(line, f"`{shape.name}` goes by another type's values")
+        module.refuse(line, f"`{shape.name}` uses another type's values")
     if not is_written and form != "untagged" and args.pop() != Word("refl"):
         module.refuse(line, f"`means` of `{shape.name}` is not that of an enum")
     # `means` has the list first, and `tree` last.
@@ -125,7 +125,7 @@ def form_of(module, shape, impl, term):
         args = called(module, term, word, impl.line)
         if args is not None and len(args) == {"external": 4, "internal": 5, "untagged": 2}[form]:
             return form, args
-    module.refuse(impl.line, f"`means` of `{shape.name}` is none of an enum")
+    module.refuse(impl.line, f"`means` of `{shape.name}` is not that of an enum")
 
 
 def enum_of(module, shape):
@@ -160,14 +160,14 @@ def enum_of(module, shape):
 def data_of(module, shape, form, of, line):
     """The type of a variant's data by its entry in the list, None for none, and the name of the member that has them, None for none."""
     if form == "internal" and of is None:
-        module.refuse(line, f"no object is a variant of `{shape.name}` without data: its list has `UnitCase` behind a tag")
+        module.refuse(line, f"`{shape.name}` has a tag, and its list has `UnitCase`, which no object matches")
     if form == "internal" and of == Type("NoFields"):
         module.of_library("NoFields", line)
         return None, None
     if form == "internal" and of.name == "Content" and module.is_library("Content"):
         owner, inner = of.args
         if owner.name != shape.name:
-            module.refuse(line, f"the data of `{shape.name}` stand where `{owner}` has its own")
+            module.refuse(line, f"the member with the data of `{shape.name}` is that of `{owner}`")
         return inner, word_of(module, "HasContent", "content", owner, line)
     return (None if form == "untagged" and of == Type("()") else of), None
 

@@ -1,4 +1,4 @@
-"""A derived module by its items, and what its names stand for."""
+"""The items of a derived module, and what its names mean."""
 import re
 
 from derived_text import Cursor, Type, impl_at, params_at, paths_of, shape_at, skip_above, tokens_of, type_at
@@ -147,7 +147,7 @@ class Module:
         return (trait, name) in self.impls
 
     def expanded(self, of, line=0):
-        """The type that a name of this module's lists stands for."""
+        """The type that a list of this module is an alias of."""
         if of.name not in self.lists:
             return of
         params, body = self.lists[of.name]

@@ -58,7 +58,7 @@ def meaning_in(module, shape, impl):
         module.refuse(impl.line, f"`means` of `{shape.name}` is not that of a newtype of `{of}`: {term}")
     checked, on = module.impl("Checked", shape.name, shape.line), "on_unsigned"
     if term_in(module, checked, "accepts") != args[1] or term_in(module, checked, "means") != inner or term_in(module, checked, "inner") != taken:
-        module.refuse(checked.line, f"`Checked` of `{shape.name}` goes by another check or value than `means`")
+        module.refuse(checked.line, f"`Checked` of `{shape.name}` has another check or value than `means`")
     return check_of(module, args[1], impl.line, on)
 
 
@@ -125,7 +125,7 @@ def newtype_of(module, shape):
     check = meaning_in(module, shape, impl)
     check_tree(module, shape)
     if module.has("Leaf", shape.name) and term_in(module, module.impl("Leaf", shape.name), "means") != term_in(module, impl, "means"):
-        module.refuse(impl.line, f"`Leaf` of `{shape.name}` goes by another check or value than `means`")
+        module.refuse(impl.line, f"`Leaf` of `{shape.name}` has another check or value than `means`")
     if is_key:
         check_key(module, shape, check)
     return Newtype(shape.name, shape.params, shape.docs, of, check, False, is_absent(module, shape, impl), is_key)

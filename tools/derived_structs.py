@@ -67,7 +67,7 @@ def term_in(module, impl, name):
 def constant(module, impl, term):
     """The value of a constant of this module that a term names."""
     if not isinstance(term, Word) or term.name not in module.constants:
-        module.refuse(impl.line, f"a list of names that is no constant of this module: {term}")
+        module.refuse(impl.line, f"a list of names that is not a constant of this module: {term}")
     crate, *mods = module.path
     wanted = ".".join(["Rattle", crate, "specs", "declared", *mods, "TheConstants", term.name])
     if words_of(module, impl).get(term.name) != wanted:
@@ -172,7 +172,7 @@ def slots_of(module, of, line):
     elif name == "OmitSlot" and len(args) == 3:
         first = [marked(module, Type("Option", args[:1]), args[1], line)]
         if first[0].given is not NO_VALUE:
-            module.refuse(line, f"a field that is left out has a default: `{of}`")
+            module.refuse(line, f"a field with `OmitSlot` has a default: `{of}`")
         first[0].omit = True
     else:
         module.refuse(line, f"a list of fields that this reader does not know: `{name}` with {len(args)} arguments")

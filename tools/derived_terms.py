@@ -92,7 +92,7 @@ def term_at(cursor):
 
 
 def applied_at(cursor):
-    """The call that is next, or what stands there without arguments."""
+    """The call that is next, or the next term if it has no arguments."""
     if cursor.took("λ"):
         names = []
         while not cursor.took("."):

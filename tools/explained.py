@@ -153,7 +153,7 @@ def cells_of(words, it, variant):
 def newtype_lines(words, it):
     """The lines of a newtype."""
     if not it.is_value:
-        return [f"A map's key, read and written as a {code(it.of)}. It is no type of a member."]
+        return [f"A map's key, read and written as a {code(it.of)}. It is not read as a value."]
     if it.is_text:
         return ["A string, which its `TextValue` parses and writes. A text that it does not parse is invalid, and so are a missing member and `null`."]
     of = words.resolved(it.of)
@@ -181,7 +181,7 @@ def check_tag(world, path, it):
         if isinstance(data, Struct) and it.tag in [name for member in data.members for name in (member.name, *member.aliases)]:
             world.module(path).refuse(0, f"`{data.name}` has a member of the name of the tag, `{it.tag}`")
         if data is not None and not isinstance(data, Struct):
-            world.module(path).refuse(0, f"the data of `{it.name}::{variant.name}` are no struct")
+            world.module(path).refuse(0, f"the data of `{it.name}::{variant.name}` are not a struct")
 
 
 def page(world, path):
@@ -212,7 +212,7 @@ def write_pages(root, crate):
 
 
 def stale_pages(root):
-    """Yields a fault for each page that stands beside a file of types, and is not what the derived module says."""
+    """Yields a fault for each page beside a file of types that differs from what the derived module says."""
     world = World(root)
     for file in sorted(world.root.glob("crates/*/types/*.md")):
         path, shown = (file.parent.parent.name, file.stem), file.relative_to(world.root)
@@ -222,5 +222,5 @@ def stale_pages(root):
         wanted, lines = page(world, path), file.read_text()
         if wanted != lines:
             new, old = ([*set(one.splitlines()) - set(other.splitlines())] for one, other in ((wanted, lines), (lines, wanted)))
-            yield "\n".join([f"{shown} is not what {world.module(path).name} says: `./derive --explain --write {path[0]}` writes it anew",
+            yield "\n".join([f"{shown} is not what {world.module(path).name} says: `./derive --explain --write {path[0]}` writes it again",
                              *(f"  page:    {it}" for it in sorted(old)), *(f"  derived: {it}" for it in sorted(new))])

@@ -1,6 +1,6 @@
 """The JSON Schema of a derived type (draft 2020-12), for `./derive --schema`.
 
-It is made from the derived module, by the reader that `./derive --explain` has. What a schema cannot say stands in a `$comment`, or on
+It is made from the derived module, by the reader that `./derive --explain` has. What a schema cannot say is in a `$comment`, or on
 the page (docs/YOUR-OWN-TYPES.md, "A type explained").
 """
 import json
@@ -80,7 +80,9 @@ class Schemas:
         """The schema of what another one takes, or of `null`."""
         if not {*schema} - {"$comment"}:
             return schema
-        if isinstance(schema.get("type"), str) and schema["type"] != "null":
+        if schema.get("type") == "null" or isinstance(schema.get("type"), list):
+            return schema
+        if isinstance(schema.get("type"), str) and "enum" not in schema:
             return {**schema, "type": [schema["type"], "null"]}
         return {"anyOf": [schema, {"type": "null"}]}
 
@@ -103,7 +105,7 @@ class Schemas:
         if isinstance(of, Named):
             model, given = self.world.given_to(of)
             if not isinstance(model, Newtype) or not model.is_key:
-                raise Refused(f"`{of}` is no key of a map")
+                raise Refused(f"`{of}` is not a map's key")
             inner, own = self.key(self.world.resolved(model.of, of.module, given)), self.check_of(model)
             comments = "; ".join(it["$comment"] for it in (own, inner) if it.get("$comment"))
             return {**inner, **({"$comment": comments} if comments else {})}
@@ -115,7 +117,7 @@ class Schemas:
             return {"minLength": 1, "maxLength": 1}
         if of.name == "String":
             return {}
-        raise Refused(f"`{of}` is no key of a map")
+        raise Refused(f"`{of}` is not a map's key")
 
     def check_of(self, model):
         """The comment of a newtype that a check narrows."""
@@ -148,7 +150,7 @@ class Schemas:
         if isinstance(model, Enum):
             return {**docs, **self.enum(model, resolved, of)}
         if not model.is_value:
-            raise Refused(f"`{of}` is a map's key, and no JSON value")
+            raise Refused(f"`{of}` is a map's key, and is not read as a value")
         if model.is_text:
             return {**docs, "type": "string", "$comment": f"text: `TextValue` of {'::'.join(of.module)}::{of.name} parses it"}
         return {**docs, **self.of(resolved(model.of)), **self.check_of(model)}
@@ -208,7 +210,7 @@ class Schemas:
         return {"type": "object", "properties": properties, "required": required}
 
     def internal(self, it, variant, resolved):
-        """The schema of a variant whose members stand beside the tag."""
+        """The schema of a variant whose members are beside the tag."""
         if variant.of is None:
             return {"type": "object", "properties": {it.tag: {"const": variant.written}}, "required": [it.tag]}
         data = resolved(variant.of)

@@ -77,7 +77,7 @@ def modules_of(crate, derived):
 
 
 def write_crate(folder, crate, derived):
-    """Writes a crate with its derived modules alone. Returns its line of crates.txt."""
+    """Writes a crate with only its derived modules. Returns its line of crates.txt."""
     source = folder / "crates" / crate.name
     shutil.copytree(crate.folder, source, ignore=shutil.ignore_patterns("out", "wrong-bodies", "types"))
     shutil.rmtree(source / "src")
