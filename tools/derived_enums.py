@@ -151,8 +151,8 @@ def enum_of(module, shape):
         contents |= {content} - {None}
         check_data(module, shape, variant, of, variables, term, content)
         variants[at] = Variant(variant[0], names[at], of, bool(variant[2]))
-    if len(contents) > 1:
-        module.refuse(shape.line, f"the data of `{shape.name}` are members of two names: {', '.join(sorted(contents))}")
+    if len(contents) > 1 or tag in contents:
+        module.refuse(shape.line, f"the data of `{shape.name}` must be a member of one name, which is not the tag's: {', '.join(sorted(contents))}")
     content = contents.pop() if contents else None
     return Enum(shape.name, shape.params, shape.docs, "adjacent" if content is not None else form, variants, tag, content)
 

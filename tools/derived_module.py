@@ -17,8 +17,13 @@ HOMES = {
     "str": "Tree", "rest_tree": "Rest", "untagged_tree": "Untagged", "untagged_meaning": "UntaggedMeaning", "codes": "Prelude",
     "string_bytes": "Prelude", "true": "Prelude", "negsuc": "Prelude", "option_map": "Prelude", "∷": "Prelude", "false": "Prelude",
 }
-# The traits whose impls say what the table has.
-READ = set("Record FromJson Serialize HasAliases HasTag HasContent DataEnum UntaggedEnum UnitEnum Checked Leaf MapKey Given FieldByField".split())
+# The traits whose impls say what the table has, each with the ghost members that it may have.
+READ = {
+    "Record": "names values made bijective distinct_names", "FromJson": "means absent read_infallible lacking", "Serialize": "tree", "HasAliases": "aliases apart",
+    "HasTag": "tag", "HasContent": "content", "DataEnum": "names values made bijective distinct_names", "UntaggedEnum": "values made bijective",
+    "UnitEnum": "all name_of found", "Checked": "inner means accepts same", "Leaf": "means only_leaves read_infallible lacking",
+    "MapKey": "content code read text from_key_infallible alike back one_text", "Given": "given", "FieldByField": "wrong right",
+}
 # The traits whose impls add laws, places and calls, and change nothing of what a text means or what is written.
 BESIDE = set(
     "Ranged RoundTrip Lossless NeverNull Stable Inside HasKinds Transparent Clone CheckedLeaf InjectiveKey ExactKey Visitor Deserialize PlacedRecord".split()
@@ -101,14 +106,16 @@ class Module:
     def take_impl(self, impl, cursor):
         """Takes an impl of a trait that is known."""
         trait = impl.trait.name
-        if trait not in READ | BESIDE:
+        if trait not in {*READ, *BESIDE}:
             raise Refused(f"{self.name}: line {impl.line}: an impl of `{trait}`, which this reader does not know")
         if trait != "Clone":
             self.of_library(trait, impl.line)
+        if others := set(impl.ghosts) - set(READ[trait].split()) if trait in READ else ():
+            self.refuse(impl.line, f"`{trait}` for `{impl.target}` has `{min(others)}`, which this reader does not know")
         for name, path in [(name, path) for tokens in impl.uses for name, path in paths_of(tokens, ".").items()]:
             if name in HOMES or "*" in path:
                 self.refuse(impl.line, f"`{trait}` for `{impl.target}` has its own `{name}`: `{path}`")
-        if tuple(str(it) for it in impl.target.args) != impl.params and trait in READ - {"Given"}:
+        if tuple(str(it) for it in impl.target.args) != impl.params and trait in READ and trait != "Given":
             raise Refused(f"{self.name}: line {impl.line}: an impl of `{trait}` for some of the types `{impl.target}` only")
         self.add(self.impls, (trait, impl.target.name), impl, cursor)
 
