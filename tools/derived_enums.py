@@ -3,7 +3,7 @@ from dataclasses import dataclass
 
 from derived_structs import called, constant, ghost_of, refuse_ghosts, term_in, text_of, whole
 from derived_terms import Call, Elim, Lambda, Of, Record, Tuple, Word
-from derived_text import Type
+from derived_text import Type, paths_of
 
 # The words of each form: of its meaning, the trait of its list, the word of its tree, and the trait of the list that is written.
 FORMS = {
@@ -100,7 +100,11 @@ def names_of(module, of, line):
 def word_of(module, trait, member, of, line):
     """The name of a tag or of a member with the data."""
     impl = module.impl(trait, of.name, line)
-    return text_of(module, impl, term_in(module, impl, member))
+    text = text_of(module, impl, term_in(module, impl, member))
+    for name in [name for tokens in impl.uses for name in paths_of(tokens, ".")]:
+        if constant(module, impl, Word(name)) != [text]:
+            module.refuse(impl.line, f"`{member}` of `{of}` is `{text}`, and `{name}` has {module.constants[name]}")
+    return text
 
 
 def parts_of(module, shape, form, args, line, is_written):

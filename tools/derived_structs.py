@@ -95,6 +95,9 @@ def ghost_of(module, term, trait, member, line):
     if not isinstance(term, Of) or (term.trait, term.member) != (trait, member):
         module.refuse(line, f"expected `{member}` of `{trait}`, found {term}")
     module.of_library(trait, line)
+    own = module.shapes.get(term.of.name)
+    if own is not None and len(own.params) == len(term.of.args) and trait in ("Record", "DataEnum", "UntaggedEnum", "HasTag") and term.of != whole(own):
+        module.refuse(line, f"`{member}` of `{term.of}`, where its parameters have other names: `{whole(own)}`")
     return term.of
 
 
@@ -235,7 +238,7 @@ def written_slots(module, shape, impl, has_rest):
     if has_rest:
         if args[0] != Word("string_bytes") or not isinstance(args[3], Lambda) or args[3].body != Dot(Word(args[3].names[0]), "entries"):
             module.refuse(impl.line, f"`tree` of `{shape.name}` does not write the entries of a map")
-        value = args[2].of if isinstance(args[2], Of) and args[2].member == "tree" else None
+        value = ghost_of(module, args[2], "Serialize", "tree", impl.line)
         args = (args[1], args[4], args[5])
     names = names_in(module, ghost_of(module, args[0], "Record", "names", impl.line), impl.line)
     slots, _ = slots_of(module, ghost_of(module, args[1], "WrittenFields", "trees", impl.line), impl.line)
@@ -290,11 +293,14 @@ def looked_into(module, shape, found):
     if not module.has("FieldByField", shape.name):
         return None
     impl = module.impl("FieldByField", shape.name)
+    probes = ("Probe", "ProbeInto", "ProbeIntoOption")
     names = {it.body.args[-1].of for it in (term_in(module, impl, "wrong"), term_in(module, impl, "right"))}
     lists = {it.body.head.of for it in (term_in(module, impl, "wrong"), term_in(module, impl, "right"))}
     now, into = module.expanded(lists.pop(), impl.line), []
     for member in found.members:
         module.of_library(now.name, impl.line)
+        if now.name not in probes or len(now.args) != 3:
+            module.refuse(impl.line, f"`{shape.name}` looks for `{member.field}` by a list that this reader does not know: `{now.name}`")
         inner = Type("Option", now.args[:1]) if now.name == "ProbeIntoOption" else now.args[0]
         slot = marked(module, inner, now.args[1], impl.line)
         if lists or names != {whole(shape)} or inner != member.slot.of or (slot.once, slot.given) != (member.slot.once, member.slot.given):

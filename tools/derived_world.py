@@ -48,7 +48,7 @@ class World:
             file = self.file_of(path)
             name = str(file.relative_to(self.root))
             if name not in self.changed and not file.is_file():
-                raise Refused(f"{name}: there is no such module")
+                raise Refused(f"{name} is missing: `./derive {path[0]}` writes it, if it is derived")
             self.modules[path] = Module(self.changed.get(name) or file.read_text(), name, path)
         return self.modules[path]
 
