@@ -158,8 +158,10 @@ class Module:
         if of.name not in self.lists:
             return of
         params, body = self.lists[of.name]
-        if len(params) != len(of.args):
-            self.refuse(line, f"`{of.name}` has {len(params)} parameters: {of}")
+        if params != tuple(map(str, of.args)):
+            self.refuse(line, f"`{of.name}` has the parameters ({', '.join(params)}), and not those of `{of}`")
+        if any(name in self.lists for name in names_in(body)):
+            self.refuse(line, f"`{of.name}` names another list")
         return replaced(body, dict(zip(params, of.args)))
 
 
@@ -168,3 +170,8 @@ def replaced(of, given):
     if of.name in given and not of.args:
         return given[of.name]
     return Type(of.name, tuple(replaced(it, given) for it in of.args))
+
+
+def names_in(of):
+    """The names that a type has."""
+    return [of.name, *(name for it in of.args for name in names_in(it))]

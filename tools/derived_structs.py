@@ -288,14 +288,23 @@ def check_counts(module, shape, names, slots, written, written_as, fields):
         slot.omit = other.omit
 
 
+def probes_in(module, shape, impl, member, names):
+    """The list by which `wrong` or `right` looks for fields."""
+    term = term_in(module, impl, member)
+    head = term.body.head if isinstance(term, Lambda) and isinstance(term.body, Call) else term
+    listed, own = ghost_of(module, head, "Probes", member, impl.line), Of(whole(shape), "Record", "names")
+    if term != Lambda(names, Call(head, (*map(Word, names), own))):
+        module.refuse(impl.line, f"`{member}` of `{shape.name}` is not that of its list and its names")
+    return listed
+
+
 def looked_into(module, shape, found):
     """The fields that the calls for a wrong field lead into, None if the struct has no such calls."""
     if not module.has("FieldByField", shape.name):
         return None
     impl = module.impl("FieldByField", shape.name)
     probes = ("Probe", "ProbeInto", "ProbeIntoOption")
-    names = {it.body.args[-1].of for it in (term_in(module, impl, "wrong"), term_in(module, impl, "right"))}
-    lists = {it.body.head.of for it in (term_in(module, impl, "wrong"), term_in(module, impl, "right"))}
+    lists = {probes_in(module, shape, impl, "wrong", ("gives", "here")), probes_in(module, shape, impl, "right", ("gives",))}
     now, into = module.expanded(lists.pop(), impl.line), []
     for member in found.members:
         module.of_library(now.name, impl.line)
@@ -303,7 +312,7 @@ def looked_into(module, shape, found):
             module.refuse(impl.line, f"`{shape.name}` looks for `{member.field}` by a list that this reader does not know: `{now.name}`")
         inner = Type("Option", now.args[:1]) if now.name == "ProbeIntoOption" else now.args[0]
         slot = marked(module, inner, now.args[1], impl.line)
-        if lists or names != {whole(shape)} or inner != member.slot.of or (slot.once, slot.given) != (member.slot.once, member.slot.given):
+        if lists or inner != member.slot.of or (slot.once, slot.given) != (member.slot.once, member.slot.given):
             module.refuse(impl.line, f"`{shape.name}` looks for `{member.field}` as `{inner}` with `{now.args[1]}`, and reads it otherwise")
         into += [member.field] if now.name != "Probe" else []
         now = now.args[2]
