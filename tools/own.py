@@ -7,7 +7,7 @@ import re
 from itertools import count
 
 from plain import MARKED, OWN, PARAM, plain
-from refusals import NAME, NAMED, OF_MORE, OF_REFUSED
+from refusals import NAME, NAMED, OF_MORE, OF_REFUSED, WORDS
 
 # Where names stand that derived code takes from Rust's prelude or from std. It writes those that the user has by their place.
 PLACES = {
@@ -54,7 +54,7 @@ def brought_by(line):
 
 def mark(found, uses):
     """Puts marks behind the names of the types of a file, before anything is written or checked of them."""
-    types = {it.name for it in found} | {name for line in uses for name in brought_by(line)}
+    types = {it.name for it in found if it.name not in WORDS} | {name for line in uses for name in brought_by(line)}
 
     def marked(of, params):
         each = lambda name: name + (PARAM if name in params else OWN if name in types else "")
