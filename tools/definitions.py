@@ -8,6 +8,7 @@ from kinds import check_adjacent, check_untagged, mark_kinds
 from lines import lines_of
 from omitted import check_omitted, mark_never_null
 from own import mark, own
+from plain import MARKED
 from rests import check_rests
 from parts import INTEGER, MARK, PUBLIC, Part, check_defaults, name_defaults, part_of, spellings, variant_field
 from refusals import (
@@ -270,6 +271,9 @@ def definitions_of(text):
     The names of the types and of their parts end in marks (`own.py`).
     """
     reader = Reader(text)
+    for number, line in enumerate(text.splitlines(), 1):
+        if MARKED.search(line):
+            reader.faults.append(f"line {number}: `{MARKED.search(line)[0][:4]}` with a number and `own0` behind it is a mark of `./derive`: write something else")
     mark([*reader.found, *reader.left_out], reader.uses)
     found = [each for it in reader.found for each in with_structs(it)]
     return found, reader.uses, Faults([*reader.faults, *check(found, reader.uses, reader.left_out)])

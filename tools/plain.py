@@ -2,9 +2,9 @@
 import re
 import zlib
 
-# The marks: of a parameter, which hides a type of its name, of any other name, and of the constant of a name.
-PARAM, OWN = "0of0", "0own0"
-MARKED = re.compile(f"{PARAM}|{OWN}|0c[0-9]+0(?![0-9])")
+# The marks: of a name, and of a parameter, which hides a type of its name. The constant of a name has another number in its mark.
+OWN, PARAM = "0own0own0", "0own1own0"
+MARKED = re.compile("0own[0-9]+own0")
 
 
 def plain(text):
@@ -14,4 +14,4 @@ def plain(text):
 
 def const_of(name):
     """The constant of the names of a type's parts. Its mark tells it from that of a name which gives the same letters."""
-    return f"{re.sub(r'(?<=[a-z0-9])(?=[A-Z])', '_', plain(name)).upper()}0c{zlib.crc32(name.encode())}0_NAMES"
+    return f"{re.sub(r'(?<=[a-z0-9])(?=[A-Z])', '_', plain(name)).upper()}0own{zlib.crc32(name.encode())}own0_NAMES"
