@@ -191,6 +191,8 @@ def check_field_name(name, written, line):
     """Refuses the name of a field that Rattle has no way to write. `written` is its name in JSON."""
     if name.startswith("r#") or name in KEYWORDS:
         raise Refused(f'line {line}: `{name}` is a word of the language: write `{name.removeprefix("r#")}_: T, // rename "{written}"`')
+    if name in ("Err", "None", "Ok", "Some"):
+        raise Refused(f'line {line}: no pattern can bind a field `{name}`, which is a variant of Rust\'s prelude: write `{name.lower()}: T, // rename "{written}"`')
 
 
 def check_written(it):
