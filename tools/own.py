@@ -1,7 +1,8 @@
-"""Keeps the names of a user apart from those that derived code has: a type `Event` stays, and the import gets another name.
+"""Keeps the names of a user apart from those of derived code: a type `Event` of a user stays, and the import is called `JsonEvent`.
 
 While a module is written, each name of the user ends in a mark, so that no text of `./derive` is taken for one of them. At
-the end a name of derived code that the user has too gets `Json` in front, and the marks are taken off.
+the end each name of derived code that the user has too gets `Json` in front, and the marks are removed. A module in which
+there is no such name is the same as without this file.
 """
 import re
 from itertools import count
@@ -9,7 +10,7 @@ from itertools import count
 from plain import MARKED, OWN, PARAM, plain
 from refusals import NAME, NAMED, OF_MORE, OF_REFUSED, WORDS
 
-# Where names stand that derived code takes from Rust's prelude or from std. It writes those that the user has by their place.
+# The paths of the names that derived code takes from Rust's prelude or from std. It writes the path if the user has the name.
 PLACES = {
     "AllocError": "std::alloc::AllocError",
     "Clone": "std::clone::Clone",
@@ -20,13 +21,14 @@ PLACES = {
     "Some": "std::option::Option::Some",
     "String": "std::string::String",
 }
-# Names that derived code binds itself where a type or a parameter of the user could stand: parameters, and values of a variant.
+# Names that derived code binds itself, which a type of the user can have: parameters, and the values of a variant.
 BOUND = set("E K W X Y a b c d e f".split())
-# Words that clauses reserve: a user's name that is one of them is quoted there, and derived code has them as they are.
+# Words that clauses reserve. There a user's name that is one of them is quoted.
 RESERVED = set(
     "abbrev absurd as axiom cc coe data elim exists forall grind hiding in infix let module mod mutual omega open "
     "opaque package pub record refl rw simp subst tt Type unfold unfoldable unfolding use where λ".split()
 )
+# Words of clauses that cannot be imported, so they keep their name.
 KEPT = RESERVED - {"refl"} | {"Rattle"}
 IMPORTED = set(" ".join([NAMED, *OF_REFUSED.values(), *OF_MORE.values()]).split())
 # The parts of derived text: what has no names, where a clause begins, brackets, and names, which in clauses may have hyphens.
@@ -34,9 +36,9 @@ TOKEN = re.compile(
     r"(?P<skip>//[^\n]*|\"(?:[^\"\\]|\\.)*\"|#\[[^\]]*\]|'[a-z_]+\b)|(?P<clause>\bghost \w+(?: =|:)(?= ))|(?P<use>\bghost use )"
     r"|(?P<bracket>[{}⟦⟧;])|(?P<name>[A-Za-z_][A-Za-z0-9_]*(?:-[a-z]+)*)"
 )
-# What stands behind a field's name where a clause makes a record.
+# What follows a field's name where a clause makes a record.
 LABEL = re.compile(r"\s*=(?!=)")
-# What stands before a name that is a member's or a path's.
+# What precedes the name of a member, or a name in a path.
 MEMBER = re.compile(r"(?:\.|::|\bfn |\n    type )$")
 
 
@@ -75,8 +77,8 @@ def mark(found, uses):
 
 
 def named_in(text):
-    """Yields the names in derived text that are no member's: each with its place, and whether it stands in a clause, where
-    types in `⟦` and `⟧` stand outside."""
+    """Yields the names in derived text, except those of members: each with its place, and whether it is a word of a clause.
+    A type between `⟦` and `⟧` is code."""
     depth, in_type, in_use = -1, False, False
     for found in TOKEN.finditer(text):
         bracket = found["bracket"]
@@ -96,15 +98,16 @@ def named_in(text):
 
 
 def is_label(text, found):
-    """Whether a name in a clause is a field's of a record that is made."""
+    """Whether a name in a clause is that of a field, in a record that the clause makes."""
     return bool(LABEL.match(text, found.end())) and not text.endswith("let ", 0, found.start())
 
 
 class Apart:
-    """Derived text in which no name of derived code is one of the user's: the text, and what it has for the names that it imports.
+    """Derived text in which no name of derived code is one of the user's.
 
-    `code` and `ghost` are the user's names, without their marks, where code and where clauses have them; `fields` are those
-    that code binds. `in_code` and `in_ghost` have what is written for a name that is the user's too.
+    `code` and `ghost` are the user's names in code and in clauses, without their marks, and `fields` those that code binds.
+    `in_code` and `in_ghost` give the new name of each name that the user has too, and `printed` those of types and constants
+    that `./derive` writes beside the user's.
     """
 
     def __init__(self, text, found, uses):
@@ -155,6 +158,6 @@ class Apart:
         return "".join([*parts, text[end:]])
 
     def imported(self, name, is_ghost):
-        """What an import says for a name, or "" if only the user's is meant."""
+        """What an import says for a name, or "" if the module has only the user's."""
         names, taken = (self.in_ghost, self.ghost) if is_ghost else (self.in_code, self.code | self.fields)
         return f"{name} as {names[name]}" if name in names else "" if name in taken else name
