@@ -31,6 +31,8 @@ RESERVED = set(
 # Words of clauses that cannot be imported, so they keep their name.
 KEPT = RESERVED - {"refl"} | {"Rattle"}
 IMPORTED = set(" ".join([NAMED, *OF_REFUSED.values(), *OF_MORE.values()]).split())
+# What the constants of derived code end in. A variant or a field could have the name of one.
+CONSTANTS = ("_NAMES", "_ALIASES", "_TAG", "_CONTENT", "_DEFAULT")
 # The parts of derived text: what has no names, where a clause begins, brackets, and names, which in clauses may have hyphens.
 TOKEN = re.compile(
     r"(?P<skip>//[^\n]*|\"(?:[^\"\\]|\\.)*\"|#\[[^\]]*\]|'[a-z_]+\b)|(?P<clause>\bghost \w+(?: =|:)(?= ))|(?P<use>\bghost use )"
@@ -119,11 +121,11 @@ class Apart:
         fields = {part.name for it in found if it.kind == "struct" for part in it.parts}
         self.code, self.ghost, self.fields = whole(types), whole(types | variants), whole(fields)
         self.in_code, self.in_ghost, self.printed = {}, {}, {}
-        self.names = whole(each["name"] for each, _ in named_in(text))
         seen = list(named_in(text))
+        self.names = whole(each["name"] for each, _ in seen) | self.code | self.ghost
         written = [name for each, _ in seen if MARKED.search(name := each["name"]) and name not in types | variants | fields]
         for name in dict.fromkeys(written):
-            others = self.ghost | self.fields if name.endswith(("_NAMES", "_ALIASES", "_TAG", "_CONTENT", "_DEFAULT")) else self.code
+            others = self.ghost | self.fields if plain(name).endswith(CONSTANTS) else self.code
             self.printed[name] = self.fresh(plain(name), others | set(self.printed.values()))
         taken = self.code | set(self.printed.values())
         for each, is_ghost in seen:
