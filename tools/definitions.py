@@ -7,10 +7,12 @@ from fields import check_refused, looked_into
 from kinds import check_adjacent, check_untagged, mark_kinds
 from lines import lines_of
 from omitted import check_omitted, mark_never_null
+from own import mark, own
+from plain import MARKED
 from rests import check_rests
 from parts import INTEGER, MARK, PUBLIC, Part, check_defaults, name_defaults, part_of, spellings, variant_field
 from refusals import (
-    NAME, check_cycles, check_derives, check_foreign_marks, check_inside, check_keys, check_lossless, check_newtype, check_param, check_params, check_places, check_stable, check_tagged,
+    NAME, check_cycles, check_derives, check_foreign_marks, check_inside, check_keys, check_lossless, check_newtype, check_param, check_params, check_places, check_stable,
     check_type, check_values, check_written, split_at_commas,
 )
 from serde import USE as USE_OF_SERDE
@@ -259,14 +261,22 @@ class Reader:
         if self.is_left_out:
             self.left_out.append(self.now)
         else:
-            self.found += with_structs(self.now)
+            self.found.append(self.now)
         self.now, self.variant, self.is_head, self.is_left_out = None, None, False, False
 
 
 def definitions_of(text):
-    """The types of a file in order, its `use` lines, and its faults. Comments and blank lines stay above what they stood above."""
+    """The types of a file in order, its `use` lines, and its faults. Comments and blank lines stay above what they stood above.
+
+    The names of the types and of their parts end in marks (`own.py`).
+    """
     reader = Reader(text)
-    return reader.found, reader.uses, Faults([*reader.faults, *check(reader.found, reader.uses, reader.left_out)])
+    for number, line in enumerate(text.splitlines(), 1):
+        if MARKED.search(line):
+            reader.faults.append(f"line {number}: `{MARKED.search(line)[0][:4]}` with a number and `own0` behind it is a mark of `./derive`: write something else")
+    mark([*reader.found, *reader.left_out], reader.uses)
+    found = [each for it in reader.found for each in with_structs(it)]
+    return found, reader.uses, Faults([*reader.faults, *check(found, reader.uses, reader.left_out)])
 
 
 def with_structs(it):
@@ -299,7 +309,8 @@ def mark_inside(found, known):
 
 def names_known(found, uses):
     """The names that a file defines or imports."""
-    return {it.name for it in found} | {name for line in uses if USE.fullmatch(line) for name in re.findall(NAME, line)}
+    imported = {name for line in uses if USE.fullmatch(line) for name in re.findall(NAME, line)}
+    return {it.name for it in found} | imported | {own(name) for name in imported}
 
 
 def check(found, uses, left_out):
@@ -310,7 +321,7 @@ def check(found, uses, left_out):
     mark_kinds(found)
     faults += [*mark_inside(found, known), *check_untagged(found), *check_adjacent(found)]
     for it in found:
-        faults += [*check_foreign_marks(it), *check_tagged(it), *check_written(it), *check_params(it, known)]
+        faults += [*check_foreign_marks(it), *check_written(it), *check_params(it)]
     for it in named:
         faults += check_derives(it, found, uses)
         names = known if "text" in it.words else foreign

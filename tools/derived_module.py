@@ -1,6 +1,7 @@
 """The items of a derived module, and what its names mean."""
 import re
 
+from derived_own import apart
 from derived_text import Cursor, Type, impl_at, params_at, paths_of, shape_at, skip_above, tokens_of, type_at
 from faults import Refused
 
@@ -39,7 +40,7 @@ class Module:
     def __init__(self, text, name, path):
         self.name, self.path = name, tuple(path)
         self.uses, self.words, self.shapes, self.lists, self.constants, self.impls = {}, {}, {}, {}, {}, {}
-        cursor = Cursor(tokens_of(text), name)
+        cursor = Cursor(apart(tokens_of(text)), name)
         while cursor.peek():
             self.take(cursor)
 

@@ -6,6 +6,7 @@ from dataclasses import dataclass
 from derived_enums import enum_of, unit_of
 from derived_module import OF_RUST, Module
 from derived_newtypes import newtype_of
+from derived_own import MARK, plain
 from derived_structs import struct_of
 from derived_text import Type
 from faults import Refused
@@ -57,6 +58,7 @@ class World:
         key = (tuple(path), name)
         if key not in self.models:
             module = self.module(path)
+            name = name if name in module.shapes else name + MARK
             if name not in module.shapes:
                 raise Refused(f"{module.name}: there is no type `{name}`")
             self.models[key] = self.read(module, module.shapes[name])
@@ -73,7 +75,7 @@ class World:
     def types_in(self, path):
         """The names of the types of a module that JSON is read as: not those of defaults and places."""
         module = self.module(path)
-        return [name for name, it in module.shapes.items() if not module.has("Given", name) and not module.has("Visitor", name)]
+        return [plain(name) for name, it in module.shapes.items() if not module.has("Given", name) and not module.has("Visitor", name)]
 
     def paths_of(self, crate):
         """The paths of the derived modules of a crate, by its files of types."""
@@ -90,7 +92,7 @@ class World:
         args = tuple(self.resolved(it, path, given) if not it.name.isdecimal() else it for it in of.args)
         name = of.name.split("::")[-1]
         if of.name in module.shapes:
-            return Named(tuple(path), of.name, args)
+            return Named(tuple(path), plain(of.name), args)
         used = module.uses.get(of.name, of.name)
         parts = used.split("::")
         if of.name in ("()", "[]") or of.name in OF_RUST and of.name not in module.uses:
@@ -101,7 +103,7 @@ class World:
             return Type(name, args)
         if len(parts) < 3:
             module.refuse(0, f"a type that this reader does not know: `{of}` ({used})")
-        return Named((path[0] if parts[0] == "crate" else parts[0], *parts[1:-1]), parts[-1], args)
+        return Named((path[0] if parts[0] == "crate" else parts[0], *parts[1:-1]), plain(parts[-1]), args)
 
     def given_to(self, named):
         """The model of a named type, and the types of its parameters."""

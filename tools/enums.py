@@ -1,5 +1,6 @@
 """The impls that `./derive` writes for an enum whose variants may have data."""
-from impls import WRITTEN, const_of, head_of, impl_of, laws_text, lent_of, of, quoted, typed, wrapped
+from impls import WRITTEN, beside, head_of, impl_of, laws_text, lent_of, of, quoted, typed, wrapped
+from plain import const_of
 
 
 def cases_of(it, parts):
@@ -227,7 +228,7 @@ def writing_text(it):
     """The impl that writes an enum. The writer has a name that no field has."""
     name, cases = typed(it), typed(it, "Cases")
     fields = {field.name for part in it.parts for field in part.fields}
-    writer = next(word for word in ("w", "writer", "out", "to") if word not in fields)
+    writer = beside(fields, ("w", "writer", "out", "to"))
     tree = f"{traits_of(it)[1]}_tree{tag_word(it)} {of('DataEnum', 'names', name)} {of('WrittenCases', 'tree', cases)} {of('DataEnum', 'values', name)}"
     return f"""
 {impl_of(it, WRITTEN)} Serialize for {name} {{

@@ -1,4 +1,5 @@
 """What `./derive --explain` and `./derive --schema` answer."""
+from derived_own import plain
 from explained import explained, write_pages
 from faults import Refused
 from schema import schema_text
@@ -6,6 +7,14 @@ from schema import schema_text
 
 def answer(root, words):
     """The text that the words of a command line ask for, None if they ask for something else."""
+    try:
+        return answered(root, words)
+    except Refused as error:
+        raise Refused(*map(plain, error.args)) from error
+
+
+def answered(root, words):
+    """What `answer` returns. The names in its messages have the marks of `derived_own.py`."""
     if words[:1] not in (["--explain"], ["--schema"]):
         return None
     word, *rest = words

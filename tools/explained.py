@@ -8,6 +8,7 @@ import re
 
 from derived_enums import Enum
 from derived_newtypes import Newtype
+from derived_own import plain
 from derived_structs import NO_VALUE, Struct
 from derived_text import Type
 from derived_world import DOCUMENTS, Named, World
@@ -170,7 +171,7 @@ def section(world, path, name):
     lines = {Struct: struct_lines, Enum: enum_lines, Newtype: newtype_lines}[type(it)](words, it)
     if isinstance(it, Enum) and it.form == "internal":
         check_tag(world, path, it)
-    return "\n\n".join([f"## {code(f'{name}<' + ', '.join(it.params) + '>' if it.params else name)}", *lines])
+    return plain("\n\n".join([f"## {code(f'{name}<' + ', '.join(it.params) + '>' if it.params else name)}", *lines]))
 
 
 def check_tag(world, path, it):

@@ -1,6 +1,8 @@
 """The faults of what `./derive` reads. Each is a message of one line, which begins with the line of the file that it is about."""
 import re
 
+from plain import plain
+
 
 class Refused(Exception):
     """Types that can't be taken; the arguments are their faults."""
@@ -18,5 +20,5 @@ class Faults(list):
             return None
 
     def in_order(self):
-        """Returns the faults by their lines, each once."""
-        return sorted(dict.fromkeys(self), key=lambda fault: int(re.match(r"line (\d+)", fault)[1]))
+        """Returns the faults by their lines, each once, without the marks of names (`own.py`)."""
+        return sorted(dict.fromkeys(map(plain, self)), key=lambda fault: int(re.match(r"line (\d+)", fault)[1]))

@@ -3,17 +3,13 @@ import re
 
 from fields import fields_text
 from omitted import inner_of
+from own import RESERVED
 from places import place_text
-
-# Words that clauses reserve: a field of such a name is quoted there.
-RESERVED = set(
-    "abbrev absurd as axiom cc coe data elim exists forall grind hiding in infix let module mod mutual omega open "
-    "opaque package pub record refl rw simp subst tt Type unfold unfoldable unfolding use where λ".split()
-)
+from plain import const_of, plain
 
 
 def quoted(name):
-    return f"«{name}»" if name in RESERVED else name
+    return f"«{name}»" if plain(name) in RESERVED else name
 
 
 def nested(items, last, word=""):
@@ -27,11 +23,11 @@ def nested(items, last, word=""):
 def wrapped(head, text):
     """A line of a clause, in more than one where it is long."""
     whole = f"    ghost {head} = {{ {text} }};"
-    if len(whole) <= 100:
+    if len(plain(whole)) <= 100:
         return whole
     lines, now = [], f"    ghost {head} = {{"
     for word in re.split(r"(?<! v\.) ", f"{text} }};"):
-        if len(now) + 1 + len(word) > 100:
+        if len(plain(now)) + 1 + len(plain(word)) > 100:
             lines.append(now)
             now = "       "
         now += f" {word}"
@@ -48,13 +44,15 @@ def made_of(names):
     """The clause that makes a struct of the values of its fields."""
     made = [f"{quoted(name)} = x{'.1' * at}.0" for at, name in enumerate(names)]
     whole = f"    ghost made = {{ λ x. record {{ {'; '.join(made)} }} }};"
-    if len(whole) <= 100:
+    if len(plain(whole)) <= 100:
         return whole
     return "\n".join(["    ghost made = { λ x. record {", *(f"      {it};" for it in made), "    } };"])
 
 
-def const_of(name):
-    return re.sub(r"(?<=[a-z0-9])(?=[A-Z])", "_", name).upper() + "_NAMES"
+def beside(names, wanted):
+    """The first of the wanted names that is none of the names, or that with a number behind it."""
+    names = {plain(name) for name in names}
+    return next(name for at in range(len(names) + 1) for each in wanted if (name := f"{each}{at or ''}") not in names)
 
 
 def typed(it, end=""):
@@ -98,19 +96,7 @@ def data_of(part):
 
 def chain_of(names):
     """The name of the chain of a struct's values, which is no field's."""
-    return next(name for name in ("parts", "chain", "values") if name not in names)
-
-
-def printed_for(it):
-    """The names of types that are written beside a type."""
-    names = [given_of(it, part) for part in it.parts if part.default]
-    if it.kind == "struct":
-        names += [f"{it.name}Fields", *([f"{it.name}Probes"] if "refused" in it.words else [])]
-    if it.kind in ("struct", "newtype"):
-        names += [f"{it.name}Place"] if "events" in it.words else []
-    if it.kind == "tagged":
-        names.append(f"{it.name}Cases")
-    return names
+    return beside(names, ("parts", "chain", "values"))
 
 
 def laws_text(it, kind, types):
@@ -370,7 +356,7 @@ def inside_text(it):
     """The impl of a struct whose members may stand beside a tag. The enum is a parameter, of a name that the struct has not."""
     if "inside" not in it.words:
         return ""
-    name, tagged = typed(it), next(each for each in ("E", "K", "W", "X", "Y") if each not in it.params)
+    name, tagged = typed(it), beside(it.params, ("E", "K", "W", "X", "Y"))
     return f"""
 {impl_of(it, WRITTEN)} Inside for {name} {{
     ghost fields = {{ {of('Record', 'names', name)} }};

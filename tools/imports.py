@@ -3,6 +3,7 @@ import re
 
 from definitions import names_known
 from newtypes import checks_of
+from plain import plain
 from refusals import IMPORTED, NAME, NAMED, OF_LAWS, OF_MORE, OF_REFUSED, more_words
 
 KEYS = [f"{sign}{bits}" for sign in "ui" for bits in "8 16 32 64 size".split()]
@@ -39,22 +40,25 @@ def place_of(facade, spec):
     return OF_LAW_SPECS.get(spec, f"miniserde.specs.{spec}") if facade == "miniserde_core" else f"miniserde.specs.{spec}"
 
 
-def uses_of(found, text, facade, crate):
-    """The imports of a module: each name that the text has, except in comments. The names of laws stand in crates of their own
-    beside `miniserde_core`."""
-    text = re.sub(r"(?m)^\s*//.*$", "", text)
+def uses_of(found, apart_from, text, facade, crate):
+    """The imports of a module: each name that the text has, except in comments. A name that is the user's too gets another
+    (`Apart`). The names of laws stand in crates of their own beside `miniserde_core`."""
+    text = plain(re.sub(r"(?m)^\s*//.*$", "", text))
+    told = lambda names, is_ghost: ", ".join(filter(None, (apart_from.imported(name, is_ghost) for name in names)))
+    taken_in = lambda place, names: [f"use {place}::{{{told(names, False)}}};"] if told(names, False) else []
+    words_in = lambda place, names: [f"ghost use Rattle.{place}.{{{told(names, True)}}};"] if told(names, True) else []
     has = lambda name: re.search(rf"(?<![A-Za-z0-9_]){re.escape(name)}(?![A-Za-z0-9_])", text)
-    pick = lambda names: ", ".join(name for name in names.split() if has(name) or name in "∷ []" and name in text)
+    pick = lambda names: [name for name in names.split() if has(name) or name in "∷ []" and name in text]
     uses = []
     has_cases = any(it.kind == "tagged" for it in found)
     for spec, names in SPECS.items():
         names = " ".join(name for name in names.split() if name != "str") if has_cases or spec not in OF_CASES else ""
         picked = pick(names)
         if spec == "Tree" and (any(it.kind == "enum" for it in found) or "{ str " in text or has("TextValue")):
-            picked = ", ".join(filter(None, [picked, "str"]))
-        if picked:
-            uses.append(f"ghost use Rattle.{place_of(facade, spec)}.{{{picked}}};")
-    uses += [f"ghost use Rattle.miniserde_more.specs.{spec}.{{{pick(names)}}};" for spec, names in OF_MORE_SPECS.items() if pick(names)]
+            picked = [*picked, "str"]
+        uses += words_in(place_of(facade, spec), picked)
+    for spec, names in OF_MORE_SPECS.items():
+        uses += words_in(f"miniserde_more.specs.{spec}", pick(names))
     enums = any(it.kind == "enum" for it in found)
     prelude = ["true", "List", "codes", "[]", "◌∷◌", "⊤"] if enums else ["true"] if "truth true" in text else []
     prelude += ["codes"] if any(it.tag is not None for it in found) and "codes" not in prelude else []
@@ -64,15 +68,16 @@ def uses_of(found, text, facade, crate):
     prelude += ["true"] if checked and "true" not in prelude else []
     prelude += ["Some"] if has("TextValue") else []
     prelude += [name for name in ("option_map", "string_bytes") if has(name)]
-    uses.append(f"ghost use Rattle.std.specs.Prelude.{{{', '.join([*prelude, 'refl'])}}};")
+    uses += words_in("std.specs.Prelude", [*prelude, "refl"])
     of_laws = dict(OF_LAWS) if facade == "miniserde_core" else {}
     of_laws |= OF_REFUSED if any("refused" in it.words for it in found) else {}
     of_laws |= OF_MORE if any(more_words(it) for it in found) else {}
     apart = {name for names in of_laws.values() for name in names.split()}
     ghosts, imports = checks_of(found, crate)
-    uses += [*ghosts, "", *imports, f"use miniserde::derived::{{{pick(' '.join(name for name in NAMED.split() if name not in apart))}}};"]
-    uses += [f"use {each}::{{{pick(names)}}};" for each, names in of_laws.items() if pick(names)]
-    return "\n".join([*uses, *(["use std::alloc::AllocError;"] if has("AllocError") else [])])
+    uses += [*ghosts, "", *imports, *taken_in("miniserde::derived", pick(" ".join(name for name in NAMED.split() if name not in apart)))]
+    for place, names in of_laws.items():
+        uses += taken_in(place, pick(names))
+    return "\n".join([*uses, *(["use std::alloc::AllocError;"] if has("AllocError") and "AllocError" not in apart_from.code else [])])
 
 
 def missing_uses(found, uses):

@@ -2,7 +2,8 @@
 that says them."""
 import re
 
-from impls import impl_of, typed
+from impls import impl_of, quoted, typed
+from plain import plain
 from refusals import NAME, applied, split_at_commas
 
 # The kinds, in the order of the trees that `by_tree` goes by; a number is one of three trees.
@@ -78,7 +79,7 @@ def check_untagged(found):
             yield f"line {it.line}: the variants of `{it.name}` have no names in JSON: leave out `rename_all`"
         seen = {}
         for part in it.parts:
-            if part.written != part.name and not it.style:
+            if part.written != plain(part.name) and not it.style:
                 yield f"line {part.line}: a variant of an untagged enum has no name in JSON: leave out `rename`: {part.name}"
             kinds = kinds_of(part.of or "()", types)
             if part.of.split("<")[0] in it.params:
@@ -124,7 +125,7 @@ def kinds_text(it, types):
         return ""
     of = it.parts[0].of if it.kind == "newtype" else ""
     if of in it.params:
-        bound, kinds, only = "HasKinds", f"{of}::Kinds", f"{of}.only"
+        bound, kinds, only = "HasKinds", f"{of}::Kinds", f"{quoted(of)}.only"
     else:
         found = kinds_of_type(it, types)
         each = ["tt" if kind in found else "refl" for kind in TREES]

@@ -2,8 +2,9 @@
 string."""
 import re
 
-from impls import impl_of, typed, wrapped
+from impls import impl_of, quoted, typed, wrapped
 from places import visitor_of
+from plain import plain
 
 # The types of std that are keys, of which a newtype's laws are known.
 UNSIGNED = "u8 u16 u32 u64 usize".split()
@@ -17,7 +18,7 @@ NULLED = r"(?:\w+::)*(?:Option|Value|Unique|Document|Box)\b|\(\)"
 def of_inner(it, kind, member):
     """A ghost member of the inner type's impl."""
     of = it.parts[0].of
-    return f"{of}.{member}" if of in it.params else f"⟦<{of} as {kind}>⟧.{member}"
+    return f"{quoted(of)}.{member}" if of in it.params else f"⟦<{of} as {kind}>⟧.{member}"
 
 
 def fact_of(it, value):
@@ -62,7 +63,7 @@ def checks_of(found, crate):
     checked = [it for it in found if it.kind == "newtype" and it.check]
     ghosts, imports = [], []
     for module in sorted({it.module for it in checked}):
-        names = ", ".join(sorted({it.check for it in checked if it.module == module}))
+        names = ", ".join(sorted({it.check for it in checked if it.module == module}, key=plain))
         title = "".join(word.capitalize() for word in module.split("_"))
         ghosts.append(f"ghost use Rattle.{crate}.specs.{title}.{{{names}}};")
         imports.append(f"use crate::{module}::{{{names}}};")
@@ -270,9 +271,10 @@ def key_text(it):
     name, of, field = typed(it), it.parts[0].of, "value" if it.check else "0"
     read, code, exact = of_inner(it, "MapKey", "read"), "", ""
     if of in it.params:
-        code = f"\n    ghost code = {{ {of}.code }};\n"
-        alike, one_text, injective = f"λ a b. {of}.alike a.0 b.0", f"λ a b. {of}.one_text a.0 b.0", f"λ a b. {of}.injective a.0 b.0"
-        back, exact = f"λ v r. let h = {of}.back v.0 r in (record {{ 0 = h.0 }}, h.1, h.2, h.3)", f"{of}.one_name"
+        param = quoted(of)
+        code = f"\n    ghost code = {{ {param}.code }};\n"
+        alike, one_text, injective = f"λ a b. {param}.alike a.0 b.0", f"λ a b. {param}.one_text a.0 b.0", f"λ a b. {param}.injective a.0 b.0"
+        back, exact = f"λ v r. let h = {param}.back v.0 r in (record {{ 0 = h.0 }}, h.1, h.2, h.3)", f"{param}.one_name"
     elif of == "String":
         alike, one_text, injective, own = "λ a b. refl", "λ a b e. e", "λ a b e. e", "refl"
         exact = f"checked-exact {it.check}" if it.check else "text-exact"

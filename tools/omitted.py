@@ -35,7 +35,7 @@ def check_omitted(found, uses):
 
 def asked_of(part, types):
     """The types of which a field needs that they are never `null`."""
-    if part.omit:
+    if part.omit and part.of.startswith("Option<"):
         yield unboxed(inner_of(part))
     for name, given in applied(part.of):
         if name in types:

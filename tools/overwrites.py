@@ -8,22 +8,26 @@ TRAITS = set(
 )
 # Comments, imports, declarations, and the ends of items of several lines.
 WRITTEN = re.compile(r"$|\s|//|(?:ghost )?use |#\[derive\(|(?:pub )?(?:struct|enum|type) |const [A-Z0-9_]+: |where$|[\])}>]")
-IMPL = re.compile(r"impl\b(?:<.*?>)?\s+(\w+)(?:<.*>)?\s+for\b", re.S)
+IMPL = re.compile(r"impl\b(?:<.*?>)?\s+(?:\w+::)*(\w+)(?:<.*>)?\s+for\b", re.S)
 IMPORT = re.compile(r"^use miniserde(?:_core)?::derived::", re.M)
+# An import that has another name in the module, since a type of the user has its own.
+RENAMED = re.compile(r"\b(\w+) as (\w+)")
 
 
-def is_written(text, at):
-    """Returns whether `./derive` writes lines like the one that begins at this index of a text."""
+def is_written(text, at, renamed):
+    """Returns whether `./derive` writes lines like the one that begins at this index of a text; `renamed` has the imports
+    by their other names."""
     if not text.startswith("impl", at):
         return bool(WRITTEN.match(text[at:].partition("\n")[0]))
     found = IMPL.match(text[at:].partition("{")[0])
-    return bool(found) and found[1] in TRAITS
+    return bool(found) and renamed.get(found[1], found[1]) in TRAITS
 
 
 def by_hand(text):
     """Returns what shows that `./derive` did not write a module, or "" if it did. It may replace a module of only comments."""
     starts = [0, *(it.end() for it in re.finditer("\n", text))]
-    line = next((text[at:].partition("\n")[0] for at in starts if not is_written(text, at)), "")
+    renamed = {new: name for used in re.findall(r"(?m)^use [^;]*;", text) for name, new in RENAMED.findall(used)}
+    line = next((text[at:].partition("\n")[0] for at in starts if not is_written(text, at, renamed)), "")
     if line:
         return f"has the line `{line}`"
     has_code = any(it.strip() and not it.startswith("//") for it in text.splitlines())

@@ -4,7 +4,7 @@ from dataclasses import dataclass, field
 
 from faults import Refused
 from lines import attributes_of
-from refusals import NAME, check_field_name, check_values, split_at_commas
+from refusals import NAME, check_field_name, check_values, check_variant_name, split_at_commas
 from serde import in_words, with_words
 
 PUBLIC = r"(pub(?:\([a-z ]+\))?\s+)?"
@@ -124,8 +124,7 @@ def variant_of(bare, line, above, style):
         raise Refused(f"line {line}: not a variant, one a line, with no number: {bare}")
     name, values, fields, _ = found.groups()
     written = spelled("enum", name, style)
-    if name == "List":
-        raise Refused(f'line {line}: derived code uses the name `List`: write `Items, // rename "{written}"`')
+    check_variant_name(name, written, line)
     part = Part(name, written, line, above, values=tuple(split_at_commas(values or "")))
     for it in split_at_commas(fields or ""):
         attributes, it = attributes_of(it)

@@ -5,6 +5,7 @@ Checks of a line raise `Refused`; those of whole types yield all faults that the
 import re
 
 from faults import Refused
+from plain import plain
 
 NAME = r"[A-Za-z_][A-Za-z0-9_]*"
 
@@ -36,9 +37,6 @@ OF_MORE = {
     "miniserde_more::untagged": "ArrayKind BooleanKind EitherKind HasKinds NullKind NumberKind ObjectKind StringKind UntaggedCases UntaggedEnum WrittenUntagged "
     "read_untagged untagged_lossless untagged_never_null untagged_round_trips untagged_stable",
 }
-# Names of Rust's prelude and of the clauses, which derived code uses as they are.
-OF_RUST = "Box Err List None Ok Option Self Some String Vec"
-
 # Types of other modules that fields often have, by their module.
 IMPORTED = {
     "std::collections": "BTreeMap HashMap VecDeque",
@@ -49,6 +47,13 @@ KEYWORDS = set(
     "as break const continue crate else enum extern false fn for ghost if impl in let loop match mod move mut pub ref return "
     "self static struct super trait true type unsafe use where while async await dyn box yield".split()
 )
+
+# Names that no type and no parameter has, each with what it is.
+WORDS = {name: "a word of the language" for name in [*KEYWORDS, "Self"]}
+WORDS |= {name: "a word of the clauses" for name in ("tt", "TheConstants")}
+WORDS |= {f"{sign}{bits}": "a type of Rust" for sign in "ui" for bits in "8 16 32 64 128 size".split()}
+WORDS |= {name: "a type of Rust" for name in ("bool", "char", "f32", "f64", "str")}
+WORDS |= {name: "a crate" for name in ("alloc", "core", "miniserde", "miniserde_core", "std")}
 
 # Types that are not read, each with what to write.
 UNREAD = {
@@ -124,8 +129,8 @@ def check_param(param, bare, line):
         raise Refused(f"line {line}: a parameter has no default: write `{name}` for `{param}`: {bare}")
     if param != name:
         raise Refused(f"line {line}: each impl has the bounds that it needs: write `{name}` for `{param}`: {bare}")
-    if not re.fullmatch(r"[A-Z][A-Za-z0-9]*", name):
-        raise Refused(f"line {line}: the name of a parameter begins with a capital letter and has no `_`, as `T`: {bare}")
+    if name in WORDS:
+        raise Refused(f"line {line}: `{name}` is {WORDS[name]}: give the parameter another name, as `T`: {bare}")
 
 
 def documents_within(found, documents):
@@ -166,12 +171,11 @@ def check_keys(found):
                     yield f"line {part.line}: `{key}` is no key: write `String`, a newtype with `key`, or a key by hand (docs/BY-HAND.md): {part.of}"
 
 
-def check_params(it, known):
-    """Refuses a parameter that has another type's name, that no field names, or that is a map's key or in an array."""
-    taken = {*known, *INSTEAD, *" ".join([NAMED, OF_RUST, *IMPORTED.values()]).split()}
+def check_params(it):
+    """Refuses a parameter that has the name of its type, that no field names, or that is a map's key or in an array."""
     for at, name in enumerate(it.params):
-        if name in taken:
-            yield f"line {it.line}: `{name}` is the name of a type: call the parameter otherwise, as `T`"
+        if plain(name) == plain(it.name):
+            yield f"line {it.line}: inside `{it.name}` this name is the parameter's: give the parameter another name, as `T`"
         elif name in it.params[:at]:
             yield f"line {it.line}: `{it.name}` has two parameters `{name}`: call one otherwise"
         elif not any(re.search(rf"(?<![\w:]){name}\b", part.of) for part in it.parts):
@@ -187,6 +191,8 @@ def check_field_name(name, written, line):
     """Refuses the name of a field that Rattle has no way to write. `written` is its name in JSON."""
     if name.startswith("r#") or name in KEYWORDS:
         raise Refused(f'line {line}: `{name}` is a word of the language: write `{name.removeprefix("r#")}_: T, // rename "{written}"`')
+    if name in ("Err", "None", "Ok", "Some"):
+        raise Refused(f'line {line}: no pattern can bind a field `{name}`, which is a variant of Rust\'s prelude: write `{name.lower()}: T, // rename "{written}"`')
 
 
 def check_written(it):
@@ -209,30 +215,22 @@ def more_words(it):
     return words + (["content"] if it.content is not None else []) + (["rest"] if any(part.rest for part in it.parts) else [])
 
 
-def check_type_names(found, printed_for):
-    """Refuses types whose names derived code has; `printed_for` returns the names that are written for a type."""
+def check_type_names(found):
+    """Refuses types whose name is reserved, and two types of one name."""
     lines = {}
-    refused = " ".join(OF_REFUSED.values()) if any("refused" in it.words for it in found) else ""
-    refused += " " + " ".join(OF_MORE.values()) if any(more_words(it) for it in found) else ""
-    for it in found:
-        if it.name in [*NAMED.split(), *OF_RUST.split(), *refused.split()]:
-            yield f"line {it.line}: derived code uses the name `{it.name}`: call the type otherwise, its JSON stays"
-        elif it.name in lines and not it.variant:
-            yield f"line {it.line}: line {lines[it.name]} has a type `{it.name}` too"
-        lines.update({} if it.variant else {it.name: it.line})
-    for it in found:
-        if it.variant:
-            yield from check_printed(it, it.name, lines)
-            lines[it.name] = it.line
-    for it in found:
-        for name in printed_for(it):
-            yield from check_printed(it, name, lines)
+    for it in [each for each in found if not each.variant]:
+        name = plain(it.name)
+        if name in WORDS:
+            yield f"line {it.line}: `{name}` is {WORDS[name]}: give the type another name; its JSON stays the same"
+        elif name in lines:
+            yield f"line {it.line}: line {lines[name]} has a type `{name}` too"
+        lines[name] = it.line
 
 
-def check_printed(it, name, lines):
-    """Refuses a type or a parameter that has the name of a type that is written for another."""
-    if name in lines or name in it.params:
-        yield f"line {lines.get(name, it.line)}: derived code has a type `{name}` for `{it.shown}`: call this one otherwise"
+def check_variant_name(name, written, line):
+    """Refuses the name of a variant that is reserved. `written` is its name in JSON."""
+    if name in KEYWORDS or name in ("Self", "tt"):
+        raise Refused(f'line {line}: `{name}` is {WORDS[name]}: write `{name}_`, and `// rename "{written}"` behind it')
 
 
 def check_cycles(found):
@@ -285,13 +283,6 @@ def check_newtype(it, integer, bare):
         raise Refused(f"line {line}: a `char` is read as a key alone, so a newtype of it has the word `key` and no other: {bare}")
     if "key" in it.words and it.check and (of[0] == "i" or not scalar):
         raise Refused(f"line {line}: a key with a check is unsigned or a `String`: {bare}")
-
-
-def check_tagged(it):
-    """Refuses a variant with data whose name is not one of a type."""
-    for part in it.parts if it.kind == "tagged" else []:
-        if not re.fullmatch(r"[A-Z][A-Za-z0-9]*", part.name):
-            yield f'line {part.line}: the name of a variant begins with a capital letter and has no `_`: write `Name, // rename "{part.written}"`'
 
 
 def check_inside(it, part, found, known):

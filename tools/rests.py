@@ -1,8 +1,9 @@
 """The impls that `./derive` writes for a struct with a field that keeps the members that no other field takes, and what it refuses of such a struct."""
 import re
 
-from impls import WRITTEN, chain_of, const_of, given_text, head_of, impl_of, lent_of, lossless_impl, of, quoted, slots_of, taken_of, typed, values_of, wrapped
+from impls import WRITTEN, chain_of, given_text, head_of, impl_of, lent_of, lossless_impl, of, quoted, slots_of, taken_of, typed, values_of, wrapped
 from impls import nested
+from plain import const_of
 
 
 def rest_of(it):

@@ -8,6 +8,7 @@ import re
 
 from derived_enums import Enum
 from derived_newtypes import Newtype
+from derived_own import plain
 from derived_structs import INTEGERS, NO_VALUE, Struct
 from derived_text import Type, type_in
 from derived_world import OF_RUST, Named, World
@@ -246,4 +247,4 @@ def schema_of(world, named):
 def schema_text(root, crate, name):
     """The schema of a type of a crate as text."""
     world = World(root)
-    return json.dumps(schema_of(world, found_type(world, crate, type_in(name, name))), indent=2, ensure_ascii=False) + "\n"
+    return plain(json.dumps(schema_of(world, found_type(world, crate, type_in(name, name))), indent=2, ensure_ascii=False)) + "\n"

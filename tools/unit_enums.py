@@ -1,5 +1,5 @@
 """The impls that `./derive` writes for an enum without data."""
-from impls import head_of, laws_text, wrapped
+from impls import head_of, laws_text, quoted, wrapped
 from places import name_place_text
 
 
@@ -35,16 +35,17 @@ impl Serialize for {name} {{
 def unit_text(it, path):
     """The impl that lists an enum's values and their names."""
     name, names = it.name, [part.name for part in it.parts]
+    clause = [quoted(name) for name in names]
     arms = [f'            {name}::{part.name} => "{part.written}",' for part in it.parts]
     return f"""
 impl UnitEnum for {name} {{
-    ghost use Rattle.{path}.{name}.TheVariants.{{{", ".join(names)}}};
+    ghost use Rattle.{path}.{name}.TheVariants.{{{", ".join(clause)}}};
 
-{wrapped("all", " ∷ ".join([*names, "[]"]))}
+{wrapped("all", " ∷ ".join([*clause, "[]"]))}
 
-{wrapped("name_of", "elim [ " + " | ".join(f'{part.name} ↦ codes "{part.written}"' for part in it.parts) + " ]")}
+{wrapped("name_of", "elim [ " + " | ".join(f'{quoted(part.name)} ↦ codes "{part.written}"' for part in it.parts) + " ]")}
 
-{wrapped("found", "elim [ " + " | ".join(f"{part} ↦ refl" for part in names) + " ]")}
+{wrapped("found", "elim [ " + " | ".join(f"{part} ↦ refl" for part in clause) + " ]")}
 
     fn values() -> &'static [{name}] {{
         &[{", ".join(f"{name}::{part}" for part in names)}]

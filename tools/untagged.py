@@ -1,6 +1,7 @@
 """The impls that `./derive` writes for an enum whose variants are told apart by the kind of the JSON value."""
 from enums import arms, bijective_clause, built_of, case_clause, made_clause, names_in, ranged_of
-from impls import WRITTEN, const_of, head_of, impl_of, laws_text, lent_of, of, quoted, typed, wrapped
+from impls import WRITTEN, beside, head_of, impl_of, laws_text, lent_of, of, quoted, typed, wrapped
+from plain import const_of
 
 
 def cases_of(parts):
@@ -76,7 +77,7 @@ def writing_text(it):
     """The impl that writes an enum. The writer has a name that no field has."""
     name, cases = typed(it), typed(it, "Cases")
     fields = {field.name for part in it.parts for field in part.fields}
-    writer = next(word for word in ("w", "writer", "out", "to") if word not in fields)
+    writer = beside(fields, ("w", "writer", "out", "to"))
     tree = f"untagged_tree {of('WrittenUntagged', 'tree', cases)} {of('UntaggedEnum', 'values', name)}"
     return f"""
 {impl_of(it, WRITTEN)} Serialize for {name} {{

@@ -27,6 +27,8 @@ mod pages;
 #[cfg(test)]
 mod phases;
 #[cfg(test)]
+mod prelude;
+#[cfg(test)]
 mod renames;
 #[cfg(test)]
 mod server;
@@ -38,5 +40,9 @@ mod structs;
 mod tables;
 #[cfg(test)]
 mod tags;
+#[cfg(test)]
+mod taken;
+#[cfg(test)]
+mod taken_names;
 #[cfg(test)]
 mod wide;
