@@ -6,6 +6,7 @@ pub mod RestRoundTrips
 pub mod RestSkipped
 pub mod RestStable
 pub mod RestStays
+pub mod RestTaken
 pub mod RestTexts
 pub mod UntaggedFirsts
 pub mod UntaggedLaws

@@ -1,5 +1,5 @@
 -- Members of the names, and members of other names behind them: each part is found again (`other_part`, `own_part`), and
--- fields of the names look at the first alone (`reads_open`). The entries that are kept have other names (`none_kept`).
+-- fields of some of the names look only at the first (`reads_open`). The entries that are kept have other names (`none_kept`).
 use Rattle.std.proofs.Common.{◌≡◌, true, false, cond, ◌||◌, List, [], ◌∷◌, Option, Some, None, refl, sym, ap, ◌∙◌, true≢false}
 use Rattle.std.specs.Prelude.{◌↔◌, ⊤, bytes_eq, option_and_then}
 use Rattle.std.specs.Map.{keys_of}
@@ -68,7 +68,7 @@ module _ (ns : List Name) where
       later : (n : Name) (names : List Name) (k : Name) → is_among names k ≡ true → is_among (n ∷ names) k ≡ true
       later n names k e = elim (bytes_eq k n) as (λ b. (b || is_among names k) ≡ true) [ true ↦ refl | false ↦ e ]
 
-  -- ---- fields of the names
+  -- ---- fields of some of the names
 
   module _ {S : Type 0} (next : S → Name → Tree → Option S)
       (skips : (s : S) (k : Name) (t : Tree) → is_among ns k ≡ false → next s k t ≡ Some s) where
@@ -82,15 +82,16 @@ module _ (ns : List Name) where
         as (λ o. option_and_then (λ r. after_members next r (members_then fs rs)) o ≡ option_and_then (λ r. after_members next r fs) o)
         [ None ↦ refl | Some r ↦ after_then r fs rs n ]
 
-  pub reads_open : {W : Type 0} (n : FieldsMeaning W) → IsOpen n → (fs rs : Members) (v : W) → NoneOwn rs
-      → n.reads [] ns (members_then fs rs) v ↔ n.reads [] ns fs v
-  reads_open n open_n fs rs v none =
-      let e : n.from_members ns n.empty (members_then fs rs) ≡ n.from_members ns n.empty fs =
-      sym (n.members_agree ns n.empty (members_then fs rs))
-      ∙ ap (option_and_then n.end) (after_then (n.next_state ns) (λ s k t h. open_n ns s k t h) n.empty fs rs none)
-      ∙ n.members_agree ns n.empty fs in
-      let all = n.reads_agrees [] ns (members_then fs rs) v in
-      let front = n.reads_agrees [] ns fs v in
+  pub reads_open : {W : Type 0} (n : FieldsMeaning W) → IsOpen n → (names : List Name)
+      → ((k : Name) → is_among ns k ≡ false → is_among names k ≡ false) → (fs rs : Members) (v : W) → NoneOwn rs
+      → n.reads [] names (members_then fs rs) v ↔ n.reads [] names fs v
+  reads_open n open_n names within fs rs v none =
+      let e : n.from_members names n.empty (members_then fs rs) ≡ n.from_members names n.empty fs =
+      sym (n.members_agree names n.empty (members_then fs rs))
+      ∙ ap (option_and_then n.end) (after_then (n.next_state names) (λ s k t h. open_n names s k t (within k h)) n.empty fs rs none)
+      ∙ n.members_agree names n.empty fs in
+      let all = n.reads_agrees [] names (members_then fs rs) v in
+      let front = n.reads_agrees [] names fs v in
       (λ h. front.1 (sym e ∙ all.0 h), λ h. all.1 (e ∙ front.0 h))
 
   -- ---- entries

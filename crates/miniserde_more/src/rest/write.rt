@@ -8,30 +8,30 @@ ghost use Rattle.miniserde_ser.specs.Trees.{members_of};
 ghost use Rattle.miniserde_record.specs.Structs.{with_names, members_text};
 ghost use Rattle.miniserde_more.specs.Rest.{kept, members_then};
 
-use crate::rest::slots::is_one_of;
+use crate::rest::taken::{TakenNames, is_taken};
 use miniserde_model::error::Result;
 use miniserde_record::record::Members;
 use miniserde_ser::ser::{Serialize, Writer};
 use std::collections::BTreeMap;
 
-// Appends a member for each entry of a map whose name is none of the names, in the order of the map, with a comma
-// before it unless it is the first of its object. Returns `Memory` if the writer fails.
-fn write_rest<V: Serialize>(
+// Appends a member for each entry of a map whose name is neither one of the names nor one of the further names `A`, in the
+// order of the map, with a comma before it unless it is the first of its object. Returns `Memory` if the writer fails.
+fn write_rest<A: TakenNames, V: Serialize>(
     w: &mut Writer,
     names: &[&str],
     rest: &BTreeMap<String, V>,
 ) -> Result<()>
     ensures ok { OnOk result (w.new.text ≡ w.old.text ++ members_text w.old.first
-        (members_of string_bytes V.tree (kept string_bytes (map (λ n. n.now) names.now) rest.now.entries))) }
+        (members_of string_bytes V.tree (kept string_bytes (A.further ++ map (λ n. n.now) names.now) rest.now.entries))) }
     ensures all_in_range { OnOk result (MembersInRange
-        (members_of string_bytes V.tree (kept string_bytes (map (λ n. n.now) names.now) rest.now.entries))) }
+        (members_of string_bytes V.tree (kept string_bytes (A.further ++ map (λ n. n.now) names.now) rest.now.entries))) }
     ensures normal { OnOk result (w.new.normal ≡ true → w.old.normal ≡ true) }
     ensures unrefused { OnOk result (w.new.refused ≡ w.old.refused) }
     ensures memory { OnErr result (IsErrOf result Memory) }
     ensures err { OnErr result (w.new.refused ≡ true) }
 {
     for (name, value) in rest {
-        if !is_one_of(names, name.as_str()) {
+        if !is_taken::<A>(names, name.as_str()) {
             w.key(name.as_str())?;
             value.begin(w)?;
         }
@@ -40,19 +40,19 @@ fn write_rest<V: Serialize>(
 }
 
 /// Writes an object that has a member for each of the values, as `write_members` does, and behind them one for each
-/// entry of a map whose name is none of `names`, in the order of the map. Returns `Memory` if the writer fails.
-pub fn write_members_and_rest<M: Members, V: Serialize>(
+/// entry of a map whose name is neither one of `names` nor one of the further names `A`, in the order of the map. Returns `Memory` if the writer fails.
+pub fn write_members_and_rest<A: TakenNames, M: Members, V: Serialize>(
     w: &mut Writer,
     names: &[&str],
     values: &M,
     rest: &BTreeMap<String, V>,
 ) -> Result<()>
     ensures { WritesTree w.old (members (members_then (with_names (map (λ n. n.now) names.now) (M.trees values.now))
-        (members_of string_bytes V.tree (kept string_bytes (map (λ n. n.now) names.now) rest.now.entries)))) result w.new }
+        (members_of string_bytes V.tree (kept string_bytes (A.further ++ map (λ n. n.now) names.now) rest.now.entries)))) result w.new }
 {
     w.map()?;
     values.write(w, names)?;
-    write_rest(w, names, rest)?;
+    write_rest::<A, V>(w, names, rest)?;
     w.map_finish()?;
     Ok(())
 }

@@ -1,5 +1,5 @@
 -- The object's text is written in two parts (`object_text`). `map` ended the writer's flag `normal`.
-use Rattle.std.proofs.Common.{true, false, map, sym, ap, ◌∙◌, true≢false, string_bytes}
+use Rattle.std.proofs.Common.{◌++◌, true, false, map, sym, ap, ◌∙◌, true≢false, string_bytes}
 use Rattle.miniserde_ser.specs.Trees.{members_of}
 use Rattle.miniserde_record.specs.Structs.{with_names}
 use Rattle.miniserde_more.specs.Rest.{kept}
@@ -10,7 +10,7 @@ pub returns : goal.returns
 returns g c =
     let names = map (λ n. n.now) c.args.names.now in
     let fs = with_names names (g.M.Members.trees c.args.values.now) in
-    let rs = members_of string_bytes g.V.Serialize.tree (kept string_bytes names c.args.rest.now.entries) in
+    let rs = members_of string_bytes g.V.Serialize.tree (kept string_bytes (g.A.TakenNames.further ++ names) c.args.rest.now.entries) in
     let opened = c.in_ok-map.ensures.ok in
     let fields = c.in_ok-write.ensures in
     let rest = c.in_ok-write_rest.ensures in

@@ -10,9 +10,9 @@ use Rattle.miniserde_more.proofs.rest.write.write_rest.Given as goal
 abbrev pub invariant-loop-name : goal.invariant-loop-name
 invariant-loop-name g l = record {
   is : l.w.text ≡ l.fn.w.text ++ members_text l.fn.w.first
-      (written string_bytes g.V.Serialize.tree (map (λ n. n.now) l.fn.names) (map deref_pair l.yielded));
-  all_in_range : MembersInRange (written string_bytes g.V.Serialize.tree (map (λ n. n.now) l.fn.names) (map deref_pair l.yielded));
-  first : l.w.first ≡ (has_no_members (written string_bytes g.V.Serialize.tree (map (λ n. n.now) l.fn.names) (map deref_pair l.yielded))
+      (written string_bytes g.V.Serialize.tree (g.A.TakenNames.further ++ map (λ n. n.now) l.fn.names) (map deref_pair l.yielded));
+  all_in_range : MembersInRange (written string_bytes g.V.Serialize.tree (g.A.TakenNames.further ++ map (λ n. n.now) l.fn.names) (map deref_pair l.yielded));
+  first : l.w.first ≡ (has_no_members (written string_bytes g.V.Serialize.tree (g.A.TakenNames.further ++ map (λ n. n.now) l.fn.names) (map deref_pair l.yielded))
       && l.fn.w.first);
   normal : l.w.normal ≡ true → l.fn.w.normal ≡ true;
   refused : l.w.refused ≡ l.fn.w.refused;
