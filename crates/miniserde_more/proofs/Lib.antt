@@ -1,3 +1,4 @@
+pub mod RestAliases
 pub mod RestBeside
 pub mod RestDues
 pub mod RestKept

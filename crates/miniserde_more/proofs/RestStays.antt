@@ -30,7 +30,7 @@ use Rattle.miniserde_more.proofs.RestBeside.{AllOwn, all_named, kept_sorted}
 
 module _ (ns : List Name) (q : Name) (other : is_among ns q ≡ false) where
   -- a member of one of the names has another name
-  another : (k : Name) → is_among ns k ≡ true → bytes_eq k q ≡ false
+  pub another : (k : Name) → is_among ns k ≡ true → bytes_eq k q ≡ false
   another k h = elim (bytes_eq k q) as (λ b. bytes_eq k q ≡ b → b ≡ false) [
     | true ↦ λ b. absurd (true≢false (sym h ∙ ap (is_among ns) (equal_if_tested k q b) ∙ other))
     | false ↦ λ b. refl
