@@ -32,7 +32,8 @@ OF_PLACED = "CheckedLeaf Deserialize Field Four LeafPlace NamePlace NoField Once
 # Those of `miniserde_more`, by their module, which code names that is derived of a type with one of its words.
 OF_MORE = {
     "miniserde_more::adjacent": "Content HasContent",
-    "miniserde_more::rest": "OpenFields WithRest rest_lossless rest_round_trips rest_stable write_members_and_rest",
+    "miniserde_more::rest": "AliasesOf NoNames OpenFields TakenNames WithRest aliased_rest_round_trips rest_lossless rest_round_trips rest_stable "
+    "write_members_and_rest",
     "miniserde_more::untagged": "ArrayKind BooleanKind EitherKind HasKinds NullKind NumberKind ObjectKind StringKind UntaggedCases UntaggedEnum WrittenUntagged "
     "read_untagged untagged_lossless untagged_never_null untagged_round_trips untagged_stable",
 }
@@ -191,12 +192,12 @@ def check_field_name(name, written, line):
 
 def check_written(it):
     """Refuses two fields or variants of one JSON name, at the second."""
-    seen = {}
-    for part in it.parts:
+    seen, parts = {}, [part for part in it.parts if not part.rest]
+    for part in parts:
         if part.written in seen:
             yield f'line {part.line}: `{part.name}` is "{part.written}" in JSON, and so is `{seen[part.written].name}` on line {seen[part.written].line}'
         seen.setdefault(part.written, part)
-    for part in it.parts:
+    for part in parts:
         for name in part.aliases:
             if name in seen:
                 yield f'line {part.line}: "{name}" is a name of `{seen[name].name}` on line {seen[name].line}: leave the alias out'

@@ -1,8 +1,8 @@
 """The impls that `./derive` writes for a struct with a field that keeps the members that no other field takes, and what it refuses of such a struct."""
 import re
 
-from impls import WRITTEN, chain_of, const_of, given_text, head_of, impl_of, lent_of, lossless_impl, of, quoted, slots_of, taken_of, typed, values_of, wrapped
-from impls import nested
+from impls import WRITTEN, aliases_text, chain_of, const_of, given_text, has_aliases, head_of, impl_of, lent_of, lossless_impl, nested, of, quoted, slots_of
+from impls import taken_of, typed, wrapped
 
 
 def rest_of(it):
@@ -44,8 +44,11 @@ def check_rests(found):
                 yield f"line {it.line}: a struct that is `{word}` {why}: leave out `{word}` or `rest`"
         if it.name in named and "inside" not in it.words:
             yield f"line {it.line}: a struct beside a tag has no `rest`: the map would keep the tag"
-        if any(part.aliases for part in fields_of(it)):
-            yield f"line {it.line}: a struct with `rest` has no aliases yet: leave out `alias` or `rest`"
+
+
+def further_of(it, whole):
+    """The type that lists the names that the map leaves out besides those of the fields."""
+    return f"AliasesOf<{whole}>" if has_aliases(it) else "NoNames"
 
 
 def rest_text(it, path):
@@ -55,10 +58,11 @@ def rest_text(it, path):
     names = [part.name for part in fields]
     whole = typed(it)
     record, written = of("Record", "values", whole), of("WrittenFields", "trees", chain)
-    read = f"WithRest<{whole}, {chain}, {value}>"
+    further = further_of(it, whole)
+    read = f"Aliased<{whole}, WithRest<{whole}, {chain}, {value}, {further}>>" if has_aliases(it) else f"WithRest<{whole}, {chain}, {value}>"
     made = [f"{quoted(part)} = x.1{'.1' * at}.0" for at, part in enumerate(names)] + [f"{quoted(rest.name)} = x.0"]
     meaning = f"struct_meaning {of('Slots', 'meaning', read)} {of('Record', 'names', whole)} {record}"
-    tree = f"rest_tree string_bytes {of('Record', 'names', whole)} {of('Serialize', 'tree', value)} (λ m. m.entries) {written} {record}"
+    tree = f"rest_tree string_bytes {of('Record', 'names', whole)} {of('TakenNames', 'further', further)} {of('Serialize', 'tree', value)} (λ m. m.entries) {written} {record}"
     valid = f"λ v. {of('Ranged', 'valid', rest.of)} ({record} v).0 × {of('WrittenFields', 'valid', chain)} ({record} v).1"
     parts = chain_of([part.name for part in it.parts])
     return f"""{head_of(it)}
@@ -93,7 +97,7 @@ const {const}: &[&str] = &[{", ".join(f'"{part.written}"' for part in fields)}];
         {name} {{ {", ".join(part.name for part in it.parts)} }}
     }}
 }}
-
+{aliases_text(it, path)}
 {impl_of(it, "FromJson")} FromJson for {whole} {{
 {wrapped("means", meaning)}
 
@@ -110,7 +114,7 @@ const {const}: &[&str] = &[{", ".join(f'"{part.written}"' for part in fields)}];
 {wrapped("tree", tree)}
 
     fn begin(&self, w: &mut Writer) -> Result<()> {{
-        write_members_and_rest(w, {const}, &{lent_of(fields, "&self.")}, &self.{rest.name})
+        write_members_and_rest::<{further}, _, _>(w, {const}, &{lent_of(fields, "&self.")}, &self.{rest.name})
     }}
 }}
 
@@ -127,11 +131,13 @@ const {const}: &[&str] = &[{", ".join(f'"{part.written}"' for part in fields)}];
 def laws_of(it, whole, chain, value):
     """The impls of the laws."""
     types = f"{whole}, {chain}, {value}"
+    more = f"{types}, {further_of(it, whole)}"
+    round_trips = f"aliased_rest_round_trips::<{types}>()" if has_aliases(it) else f"rest_round_trips::<{more}>()"
     text = f"""
 {impl_of(it, "RoundTrip")} RoundTrip for {whole} {{
     fn round_trips() {{
         <{chain} as OpenFields>::open();
-        rest_round_trips::<{types}>()
+        {round_trips}
     }}
 }}
 """ if it.has_laws else ""
@@ -139,7 +145,7 @@ def laws_of(it, whole, chain, value):
         text += f"""
 {lossless_impl(it)} Lossless for {whole} {{
     fn lossless() {{
-        rest_lossless::<{types}>()
+        rest_lossless::<{more}>()
     }}
 }}
 """
@@ -153,7 +159,7 @@ def laws_of(it, whole, chain, value):
         text += f"""
 {impl_of(it, "Stable")} Stable for {whole} {{
     fn stable() {{
-        rest_stable::<{types}>()
+        rest_stable::<{more}>()
     }}
 }}
 """

@@ -7,6 +7,7 @@ pub mod calls;
 pub mod kinds;
 pub mod lists;
 pub mod notes;
+pub mod peers;
 pub mod places;
 pub mod settings;
 #[cfg(test)]
