@@ -1,9 +1,9 @@
 -- The members that are written of a struct with aliases have no alias's name, so they count by their own (`written_alone`).
 -- A name that is neither a field's nor an alias has in the members by the fields' names what it has in all (`last_renamed`).
-use Rattle.std.proofs.Common.{◌≡◌, Bool, true, false, cond, ◌||◌, List, [], ◌∷◌, ◌++◌, Option, Some, None, refl, sym, ap, ◌∙◌}
+use Rattle.std.proofs.Common.{◌≡◌, true, false, cond, ◌||◌, List, [], ◌∷◌, ◌++◌, Option, refl, sym, ap, ◌∙◌}
 use Rattle.std.specs.Prelude.{bytes_eq}
 use Rattle.miniserde_model.specs.Tree.{Tree, Members, no_members, member}
-use Rattle.miniserde_model.specs.Normal.{last_of, or_else}
+use Rattle.miniserde_model.specs.Normal.{last_of}
 use Rattle.miniserde_read.specs.types.Objects.{Name}
 use Rattle.miniserde_ser.specs.Trees.{members_of}
 use Rattle.miniserde_record.specs.Aliases.{field_name_of, with_field_names, are_unaliased}

@@ -1,5 +1,5 @@
 -- The names that are taken: the further names, and behind them those of the fields.
-use Rattle.std.proofs.Common.{◌≡◌, Bool, true, false, ◌||◌, List, [], ◌∷◌, ◌++◌, refl, sym, ◌∙◌}
+use Rattle.std.proofs.Common.{◌≡◌, true, false, ◌||◌, List, [], ◌∷◌, ◌++◌, refl}
 use Rattle.std.specs.Prelude.{bytes_eq}
 use Rattle.miniserde_read.specs.types.Objects.{Name}
 use Rattle.miniserde_record.specs.Marks.{is_among}

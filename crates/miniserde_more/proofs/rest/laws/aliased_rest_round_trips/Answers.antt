@@ -1,7 +1,7 @@
 -- None of the written names is an alias, so the written members keep their names (`written_alone`). They are read as without
 -- aliases (`rest_round_trips`).
 use Rattle.std.proofs.Common.{[], sym, subst, string_bytes, BTreeMap, String, Global}
-use Rattle.miniserde_more.specs.Rest.{alias_names, rest_members}
+use Rattle.miniserde_more.specs.Rest.{alias_names}
 use Rattle.miniserde_more.specs.RestMeaning.{with_rest}
 use Rattle.miniserde_more.proofs.RestAliases.{written_alone}
 use Rattle.miniserde_more.proofs.rest.laws.aliased_rest_round_trips.Goals as goal

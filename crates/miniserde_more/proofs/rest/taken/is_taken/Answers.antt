@@ -1,6 +1,5 @@
 -- A name is taken if it is a field's (`named`), and else exactly if it is a further name (`further_only`).
-use Rattle.std.proofs.Common.{◌≡◌, false, map, sym, ◌∙◌}
-use Rattle.miniserde_record.specs.Marks.{is_among}
+use Rattle.std.proofs.Common.{map, sym, ◌∙◌}
 use Rattle.miniserde_more.proofs.RestTaken.{named, further_only}
 use Rattle.miniserde_more.proofs.rest.taken.is_taken.Goals as goal
 
