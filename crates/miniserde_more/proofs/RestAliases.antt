@@ -24,10 +24,12 @@ no_alias (p ∷ ps) k h =
     [ true ↦ λ h. absurd (cc) | false ↦ λ h. no_alias ps k h ] h
 
 -- members whose names are no aliases keep them
-keep_names : (ps : List (Name × Name)) (ns : List Name) (rs : Members) → NoneOwn (alias_names ps ++ ns) rs → with_field_names ps rs ≡ rs
-keep_names ps ns no_members h = refl
-keep_names ps ns (member k t rs) h =
-    rw (no_alias ps k (not_further (alias_names ps) ns k h.0)) (ap (member k t) (keep_names ps ns rs h.1))
+keep_names : (ps : List (Name × Name)) (more ns : List Name) (rs : Members) → NoneOwn ((alias_names ps ++ more) ++ ns) rs
+    → with_field_names ps rs ≡ rs
+keep_names ps more ns no_members h = refl
+keep_names ps more ns (member k t rs) h =
+    rw (no_alias ps k (not_further (alias_names ps) more k (not_further (alias_names ps ++ more) ns k h.0)))
+    (ap (member k t) (keep_names ps more ns rs h.1))
 
 -- members behind members, by the fields' names
 names_then : (ps : List (Name × Name)) (fs rs : Members)
@@ -37,14 +39,14 @@ names_then ps (member k t fs) rs = ap (member (field_name_of ps k) t) (names_the
 
 -- the members that are written count by their own names
 pub written_alone : {K V : Type 0} (text : K → Name) (f : V → Tree) (ps : List (Name × Name)) (ns : List Name) (ts : List (Option Tree))
-    (es : List (K × V)) → are_unaliased ps ns ≡ true
-    → with_field_names ps (members_then (with_names ns ts) (members_of text f (kept text (alias_names ps ++ ns) es)))
-    ≡ members_then (with_names ns ts) (members_of text f (kept text (alias_names ps ++ ns) es))
-written_alone text f ps ns ts es apart =
-    let rs = members_of text f (kept text (alias_names ps ++ ns) es) in
+    (more : List Name) (es : List (K × V)) → are_unaliased ps ns ≡ true
+    → with_field_names ps (members_then (with_names ns ts) (members_of text f (kept text ((alias_names ps ++ more) ++ ns) es)))
+    ≡ members_then (with_names ns ts) (members_of text f (kept text ((alias_names ps ++ more) ++ ns) es))
+written_alone text f ps ns ts more es apart =
+    let rs = members_of text f (kept text ((alias_names ps ++ more) ++ ns) es) in
     names_then ps (with_names ns ts) rs
     ∙ ap (λ fs. members_then fs (with_field_names ps rs)) (written_counts ps ns ts apart)
-    ∙ ap (members_then (with_names ns ts)) (keep_names ps ns rs (none_kept (alias_names ps ++ ns) text f es))
+    ∙ ap (members_then (with_names ns ts)) (keep_names ps more ns rs (none_kept ((alias_names ps ++ more) ++ ns) text f es))
 
 module _ (ns : List Name) (q : Name) (other : is_among ns q ≡ false) where
   -- a name is q exactly if its field's name is, since q is neither a field's name nor an alias
@@ -64,7 +66,8 @@ module _ (ns : List Name) (q : Name) (other : is_among ns q ≡ false) where
   last_same ps h a (member k t ms) = rw (same_name ps k h a, last_same ps h a ms) refl
 
 -- at a name that is not taken the members have by the fields' names what they have
-pub last_renamed : (ps : List (Name × Name)) (ns : List Name) (q : Name) → are_of_names ps ns ≡ true
-    → is_among (alias_names ps ++ ns) q ≡ false → (ms : Members) → last_of q (with_field_names ps ms) ≡ last_of q ms
-last_renamed ps ns q h other ms =
-    last_same ns q (not_named (alias_names ps) ns q other) ps h (not_further (alias_names ps) ns q other) ms
+pub last_renamed : (ps : List (Name × Name)) (more ns : List Name) (q : Name) → are_of_names ps ns ≡ true
+    → is_among ((alias_names ps ++ more) ++ ns) q ≡ false → (ms : Members) → last_of q (with_field_names ps ms) ≡ last_of q ms
+last_renamed ps more ns q h other ms =
+    last_same ns q (not_named (alias_names ps ++ more) ns q other) ps h
+    (not_further (alias_names ps) more q (not_further (alias_names ps ++ more) ns q other)) ms

@@ -1,6 +1,6 @@
 -- Members of the names, and members of other names behind them: each part is found again (`other_part`, `own_part`), and
 -- fields of some of the names look only at the first (`reads_open`). The entries that are kept have other names (`none_kept`).
-use Rattle.std.proofs.Common.{◌≡◌, true, false, cond, ◌||◌, List, [], ◌∷◌, Option, Some, None, refl, sym, ap, ◌∙◌, true≢false}
+use Rattle.std.proofs.Common.{◌≡◌, suc, true, false, cond, ◌||◌, List, [], ◌∷◌, ◌++◌, Option, Some, None, refl, sym, ap, ◌∙◌, true≢false}
 use Rattle.std.specs.Prelude.{◌↔◌, ⊤, bytes_eq, option_and_then}
 use Rattle.std.specs.Map.{keys_of}
 use Rattle.std.specs.List.{AllByRecursion}
@@ -12,13 +12,15 @@ use Rattle.miniserde_read.specs.types.Objects.{Name, after_members}
 use Rattle.miniserde_read.specs.types.Maps.{first_and_last, first_and_last_at, entry_at, EntryFits, MapReads}
 use Rattle.miniserde_read.proofs.Entries.{equal_if_tested}
 use Rattle.miniserde_ser.specs.Trees.{members_of}
+use Rattle.miniserde_record.specs.Fields.{count_named}
 use Rattle.miniserde_record.specs.FieldsMeaning.{FieldsMeaning}
 use Rattle.miniserde_record.specs.Marks.{is_among}
-use Rattle.miniserde_record.specs.Structs.{with_names}
-use Rattle.miniserde_record.proofs.Names.{same}
-use Rattle.miniserde_more.specs.Rest.{others, kept, members_then, name_keys}
+use Rattle.miniserde_record.specs.Structs.{is_new, with_names}
+use Rattle.miniserde_record.proofs.Names.{same, both, count_new}
+use Rattle.miniserde_more.specs.Rest.{is_clear, others, kept, members_then, name_keys}
 use Rattle.miniserde_more.specs.RestMeaning.{IsOpen}
 use Rattle.miniserde_more.proofs.RestKept.{kept-at}
+use Rattle.miniserde_more.proofs.RestTaken.{front}
 
 module _ (ns : List Name) where
   -- the members of the names
@@ -148,3 +150,30 @@ module _ (ns : List Name) where
           | false ↦ λ b. rw (kept-at text ns q es, b) (h.1 q)
         ] refl,
   )
+
+  -- members of other names have none of the names
+  count_other : (q : Name) (rs : Members) → NoneOwn rs → is_among ns q ≡ true → count_named q rs ≡ 0
+  count_other q no_members n e = refl
+  count_other q (member k t rs) n e =
+      elim (bytes_eq k q) as (λ b. bytes_eq k q ≡ b → cond b (suc (count_named q rs)) (count_named q rs) ≡ 0) [
+        | true ↦ λ b. absurd (true≢false (sym e ∙ ap (is_among ns) (sym (equal_if_tested k q b)) ∙ n.0))
+        | false ↦ λ b. count_other q rs n.1 e
+      ] refl
+
+count_then : (q : Name) (fs rs : Members) → count_named q fs ≡ 0 → count_named q rs ≡ 0 → count_named q (members_then fs rs) ≡ 0
+count_then q no_members rs f r = r
+count_then q (member k t fs) rs f r =
+    elim (bytes_eq k q) as (λ b. cond b (suc (count_named q fs)) (count_named q fs) ≡ 0
+    → cond b (suc (count_named q (members_then fs rs))) (count_named q (members_then fs rs)) ≡ 0)
+    [ true ↦ λ f. absurd (cc) | false ↦ λ f. count_then q fs rs f r ] f
+
+-- no written member has a name that is clear
+pub clear_named : {K V : Type 0} (text : K → Name) (f : V → Tree) (names further : List Name) (ts : List (Option Tree)) (es : List (K × V))
+    (q : Name) → is_clear names further q ≡ true
+    → count_named q (members_then (with_names names ts) (members_of text f (kept text (further ++ names) es))) ≡ 0
+clear_named text f names further ts es q clear =
+    let h = both (is_new q names) (is_among further q) clear in
+    let taken = further ++ names in
+    let rs = members_of text f (kept text taken es) in
+    count_then q (with_names names ts) rs (count_new q names ts h.0)
+    (count_other taken q rs (none_kept taken text f es) (front further names q h.1))

@@ -13,5 +13,5 @@ pub use laws::{
 };
 pub use open::OpenFields;
 pub use slots::WithRest;
-pub use taken::{AliasesOf, NoNames, TakenNames};
-pub use write::write_members_and_rest;
+pub use taken::{AliasesOf, NoNames, TagOf, TakenNames};
+pub use write::{rest_named, write_inside_and_rest, write_members_and_rest};

@@ -97,26 +97,28 @@ pub fn aliased_rest_round_trips<
     S: HasAliases<Values = Parts<BTreeMap<String, V>, F::Values>>,
     F: RoundTripFields,
     V: RoundTrip,
+    A: TakenNames,
 >()
     requires count { length S.names ≡ F.meaning.count }
     requires open { IsOpen F.meaning }
     ensures { (v : S) → ⟦<BTreeMap<String, V> as Ranged>⟧.valid (S.values v).0 × F.valid (S.values v).1
         → RoundTrips (λ v. ⟦<BTreeMap<String, V> as Ranged>⟧.valid (S.values v).0 × F.valid (S.values v).1)
-        (rest_tree string_bytes S.names (alias_names S.aliases) V.tree (λ m. m.entries) F.trees S.values)
+        (rest_tree string_bytes S.names (alias_names S.aliases ++ A.further) V.tree (λ m. m.entries) F.trees S.values)
         (struct_meaning (with_aliases S.aliases
-        (with_rest string_bytes S.names (alias_names S.aliases) V.means (λ m. m.entries) F.meaning)) S.names S.values).reads
-        (rest_tree string_bytes S.names (alias_names S.aliases) V.tree (λ m. m.entries) F.trees S.values v) }
+        (with_rest string_bytes S.names (alias_names S.aliases ++ A.further) V.means (λ m. m.entries) F.meaning)) S.names S.values).reads
+        (rest_tree string_bytes S.names (alias_names S.aliases ++ A.further) V.tree (λ m. m.entries) F.trees S.values v) }
 {
-    rest_round_trips::<S, F, V, AliasesOf<S>>()
+    rest_round_trips::<S, F, V, AliasesOf<S, A>>()
 }
 
 /// Does nothing. It promises of structs whose fields have aliases what `rest_is_kept` does: at each name that is neither a
-/// field's nor an alias, the written object has the normal form of the last tree that the object has there, if there is
+/// field's nor an alias nor one of the further names, the written object has the normal form of the last tree that the object has there, if there is
 /// one.
 pub fn aliased_rest_is_kept<
     S: HasAliases<Values = Parts<BTreeMap<String, V>, F::Values>>,
     F: RoundTripFields,
     V: RoundTrip,
+    A: TakenNames,
 >()
     // Each alias is one of a field of the struct.
     requires of_names { are_of_names S.aliases S.names ≡ true }
@@ -124,11 +126,11 @@ pub fn aliased_rest_is_kept<
     requires normal { (t : Tree) (x : V) → V.means.reads t x → V.tree x ≡ norm t }
     ensures { (t : Tree) (v w : S)
         → (struct_meaning (with_aliases S.aliases
-        (with_rest string_bytes S.names (alias_names S.aliases) V.means (λ m. m.entries) F.meaning)) S.names S.values).reads t v
+        (with_rest string_bytes S.names (alias_names S.aliases ++ A.further) V.means (λ m. m.entries) F.meaning)) S.names S.values).reads t v
         → ⟦<BTreeMap<String, V> as Ranged>⟧.valid (S.values v).0
         → (S.values w).0 ≡ (S.values v).0
-        → KeepsOthers (alias_names S.aliases ++ S.names) t
-        (rest_tree string_bytes S.names (alias_names S.aliases) V.tree (λ m. m.entries) F.trees S.values w) }
+        → KeepsOthers ((alias_names S.aliases ++ A.further) ++ S.names) t
+        (rest_tree string_bytes S.names (alias_names S.aliases ++ A.further) V.tree (λ m. m.entries) F.trees S.values w) }
 {
     F::round_trips()
 }

@@ -1,9 +1,10 @@
 //! The names that a struct's rest leaves out, besides those of the struct's fields.
-ghost use Rattle.std.specs.Prelude.{◌≡◌, ◌++◌, List, [], map};
+ghost use Rattle.std.specs.Prelude.{◌≡◌, ◌++◌, List, [], ◌∷◌, map};
 ghost use Rattle.miniserde_read.specs.types.Objects.{Name};
 ghost use Rattle.miniserde_record.specs.Marks.{is_among};
 ghost use Rattle.miniserde_more.specs.Rest.{alias_names};
 
+use miniserde_enum::HasTag;
 use miniserde_record::record::HasAliases;
 use std::marker::PhantomData;
 
@@ -30,16 +31,37 @@ impl TakenNames for NoNames {
     }
 }
 
-/// The aliases of the fields of the struct `S`.
-pub struct AliasesOf<S> {
+/// The aliases of the fields of the struct `S`, and the further names `A`.
+pub struct AliasesOf<S, A = NoNames> {
     of: PhantomData<S>,
+    others: PhantomData<A>,
 }
 
-impl<S: HasAliases> TakenNames for AliasesOf<S> {
-    ghost further = { alias_names S.aliases };
+impl<S: HasAliases, A: TakenNames> TakenNames for AliasesOf<S, A> {
+    ghost further = { alias_names S.aliases ++ A.further };
 
     fn takes(name: &str) -> bool {
-        is_alias(S::aliases(), name)
+        if is_alias(S::aliases(), name) {
+            return true;
+        }
+        A::takes(name)
+    }
+}
+
+/// The tag of the enum `E`, and the further names `A`.
+pub struct TagOf<E, A = NoNames> {
+    of: PhantomData<E>,
+    others: PhantomData<A>,
+}
+
+impl<E: HasTag, A: TakenNames> TakenNames for TagOf<E, A> {
+    ghost further = { E.tag ∷ A.further };
+
+    fn takes(name: &str) -> bool {
+        if is_one_of(E::tag(), name) {
+            return true;
+        }
+        A::takes(name)
     }
 }
 

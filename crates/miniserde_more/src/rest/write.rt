@@ -2,15 +2,18 @@
 ghost use Rattle.std.specs.Prelude.{◌≡◌, ◌++◌, true, OnOk, OnErr, IsErrOf, map, string_bytes};
 ghost use Rattle.miniserde_model.specs.Tree.{members};
 ghost use Rattle.miniserde_model.specs.InRange.{MembersInRange};
+ghost use Rattle.miniserde_read.specs.types.Objects.{Name};
 ghost use Rattle.miniserde_model.specs.declared.error.Error.TheVariants.{Memory};
 ghost use Rattle.miniserde_ser.specs.Writer.{WritesTree};
 ghost use Rattle.miniserde_ser.specs.Trees.{members_of};
+ghost use Rattle.miniserde_record.specs.Fields.{count_named};
+ghost use Rattle.miniserde_record.specs.InOrder.{KeepsTreesNormal};
 ghost use Rattle.miniserde_record.specs.Structs.{with_names, members_text};
-ghost use Rattle.miniserde_more.specs.Rest.{kept, members_then};
+ghost use Rattle.miniserde_more.specs.Rest.{is_clear, kept, members_then, rest_members};
 
 use crate::rest::taken::{TakenNames, is_taken};
 use miniserde_model::error::Result;
-use miniserde_record::record::Members;
+use miniserde_record::record::{Members, Parts, Record, WrittenFields};
 use miniserde_ser::ser::{Serialize, Writer};
 use std::collections::BTreeMap;
 
@@ -25,7 +28,8 @@ fn write_rest<A: TakenNames, V: Serialize>(
         (members_of string_bytes V.tree (kept string_bytes (A.further ++ map (λ n. n.now) names.now) rest.now.entries))) }
     ensures all_in_range { OnOk result (MembersInRange
         (members_of string_bytes V.tree (kept string_bytes (A.further ++ map (λ n. n.now) names.now) rest.now.entries))) }
-    ensures normal { OnOk result (w.new.normal ≡ true → w.old.normal ≡ true) }
+    ensures normal { OnOk result (KeepsTreesNormal w.old
+        (members_of string_bytes V.tree (kept string_bytes (A.further ++ map (λ n. n.now) names.now) rest.now.entries)) w.new) }
     ensures unrefused { OnOk result (w.new.refused ≡ w.old.refused) }
     ensures memory { OnErr result (IsErrOf result Memory) }
     ensures err { OnErr result (w.new.refused ≡ true) }
@@ -36,6 +40,34 @@ fn write_rest<A: TakenNames, V: Serialize>(
             value.begin(w)?;
         }
     }
+    Ok(())
+}
+
+/// Appends a member for each of the values, as `Members::write` does, and behind them one for each entry of a map whose
+/// name is neither one of `names` nor one of the further names `A`, in the order of the map. A comma stands before each
+/// member that is not the first of its object. Returns `Memory` if the writer fails.
+#[inline(always)]
+pub fn write_inside_and_rest<A: TakenNames, M: Members, V: Serialize>(
+    w: &mut Writer,
+    names: &[&str],
+    values: &M,
+    rest: &BTreeMap<String, V>,
+) -> Result<()>
+    ensures ok { OnOk result (w.new.text ≡ w.old.text ++ members_text w.old.first
+        (members_then (with_names (map (λ n. n.now) names.now) (M.trees values.now))
+        (members_of string_bytes V.tree (kept string_bytes (A.further ++ map (λ n. n.now) names.now) rest.now.entries)))) }
+    ensures all_in_range { OnOk result (MembersInRange
+        (members_then (with_names (map (λ n. n.now) names.now) (M.trees values.now))
+        (members_of string_bytes V.tree (kept string_bytes (A.further ++ map (λ n. n.now) names.now) rest.now.entries)))) }
+    ensures normal { OnOk result (KeepsTreesNormal w.old
+        (members_then (with_names (map (λ n. n.now) names.now) (M.trees values.now))
+        (members_of string_bytes V.tree (kept string_bytes (A.further ++ map (λ n. n.now) names.now) rest.now.entries))) w.new) }
+    ensures unrefused { OnOk result (w.new.refused ≡ w.old.refused) }
+    ensures memory { OnErr result (IsErrOf result Memory) }
+    ensures err { OnErr result (w.new.refused ≡ true) }
+{
+    values.write(w, names)?;
+    write_rest::<A, V>(w, names, rest)?;
     Ok(())
 }
 
@@ -51,8 +83,19 @@ pub fn write_members_and_rest<A: TakenNames, M: Members, V: Serialize>(
         (members_of string_bytes V.tree (kept string_bytes (A.further ++ map (λ n. n.now) names.now) rest.now.entries)))) result w.new }
 {
     w.map()?;
-    values.write(w, names)?;
-    write_rest::<A, V>(w, names, rest)?;
+    write_inside_and_rest::<A, M, V>(w, names, values, rest)?;
     w.map_finish()?;
     Ok(())
 }
+
+/// Does nothing. It promises that no written member of a struct with a rest has a name that is neither a field's nor
+/// written of the map, as the further names are.
+pub fn rest_named<
+    S: Record<Values = Parts<BTreeMap<String, V>, F::Values>>,
+    F: WrittenFields,
+    V: Serialize,
+    A: TakenNames,
+>()
+    ensures { (k : Name) (v : S) → is_clear S.names A.further k ≡ true
+        → count_named k (rest_members string_bytes S.names A.further V.tree (λ m. m.entries) F.trees S.values v) ≡ 0 }
+{}

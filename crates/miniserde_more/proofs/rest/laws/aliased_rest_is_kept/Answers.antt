@@ -17,7 +17,7 @@ pub returns : goal.returns
 returns g c = λ t v w r valid same q other.
     let s = g.S.Record in
     let ps = g.S.HasAliases.aliases in
-    let more = alias_names ps in
+    let more = alias_names ps ++ g.A.TakenNames.further in
     let f = g.V.Serialize.tree in
     let m = g.V.FromJson.means in
     let n = with_rest string_bytes s.names more m (λ (x : BTreeMap (String Global) g.row.V.Denot). x.entries) g.F.RoundTripFields.meaning in
@@ -27,4 +27,4 @@ returns g c = λ t v w r valid same q other.
     (λ ms e. ap behind same
     ∙ stays string_bytes s.names more f m.from_tree m.reads _ (λ a b. names_agree (string_bytes a) (string_bytes b)) c.requires.normal q other ts
     (s.values v).0.entries valid.0 (with_field_names ps ms) e.1
-    ∙ ap (option_map norm) (last_renamed ps s.names q c.requires.of_names other ms)) t r
+    ∙ ap (option_map norm) (last_renamed ps g.A.TakenNames.further s.names q c.requires.of_names other ms)) t r

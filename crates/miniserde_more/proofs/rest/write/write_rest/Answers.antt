@@ -3,7 +3,7 @@ use Rattle.std.proofs.Common.{◌≡◌, true, false, [], ◌∷◌, ◌++◌, s
 use Rattle.std.specs.Map.Iter.{deref_pair}
 use Rattle.std.proofs.lemmas.List.{map-append}
 use Rattle.miniserde_record.specs.Marks.{is_among}
-use Rattle.miniserde_more.proofs.RestTexts.{written_known, text_step, range_step, first_step, found}
+use Rattle.miniserde_more.proofs.RestTexts.{written_known, text_step, range_step, normal_step, first_step, found}
 use Rattle.miniserde_more.proofs.rest.write.write_rest.Goals as goal
 
 pub loop-name-preserved-in-Continue-branch-2 : goal.loop-name-preserved-in-Continue-branch-2
@@ -23,7 +23,9 @@ loop-name-preserved-in-Continue-branch-2 g c =
       is = text_step string_bytes f names done entry first c.args.w.now.text other inv.is inv.first (ap (λ s. s.text) at) wrote.ok;
       all_in_range = range_step string_bytes f names done entry other inv.all_in_range (rw named at c.in_ok-key.ensures.utf8) wrote.in_range;
       first = first_step string_bytes f names done entry first other (wrote.first (ap (λ s. s.first) at));
-      normal = λ n. inv.normal (sym (ap (λ s. s.normal) at) ∙ (wrote.normal n).0);
+      normal = λ n.
+          let so_far = inv.normal (sym (ap (λ s. s.normal) at) ∙ (wrote.normal n).0) in
+          (so_far.0, normal_step string_bytes f names done entry other so_far.1 (wrote.normal n).1);
       refused = wrote.unrefused ∙ sym c.in_ok-key.ensures.appends.was_running ∙ inv.refused;
     })
 
