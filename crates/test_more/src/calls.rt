@@ -31,7 +31,7 @@ fn labels_stay()
         → KeepsOthers (codes "host" ∷ codes "hostname" ∷ codes "p" ∷ codes "name" ∷ codes "port" ∷ []) t
         (⟦<Peer as Serialize>⟧.tree (with_name name p)) }
 {
-    aliased_rest_is_kept::<Peer, PeerFields, Document>()
+    aliased_rest_is_kept::<Peer, PeerFields, Document, NoNames>()
 }
 
 /// Returns the text of settings at another port. All other members are as they were in the text, in normal form. Returns

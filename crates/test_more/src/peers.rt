@@ -3,7 +3,7 @@ ghost use Rattle.miniserde.specs.Aliases.{aliases_of};
 ghost use Rattle.miniserde.specs.FieldsMeaning.{struct_meaning};
 ghost use Rattle.miniserde.specs.Structs.{names_of};
 ghost use Rattle.miniserde.specs.Tree.{nonneg};
-ghost use Rattle.miniserde_more.specs.Rest.{rest_tree};
+ghost use Rattle.miniserde_more.specs.Rest.{alias_names, rest_tree};
 ghost use Rattle.std.specs.Prelude.{string_bytes, refl};
 
 use miniserde::derived::{
@@ -13,7 +13,7 @@ use miniserde::derived::{
 };
 use miniserde::json::Document;
 use miniserde_more::rest::{
-    AliasesOf, OpenFields, TakenNames, WithRest, aliased_rest_round_trips, rest_lossless,
+    AliasesOf, NoNames, OpenFields, TakenNames, WithRest, aliased_rest_round_trips, rest_lossless,
     write_members_and_rest,
 };
 use std::collections::BTreeMap;
@@ -98,7 +98,7 @@ impl FromJson for Peer {
 }
 
 impl Serialize for Peer {
-    ghost tree = { rest_tree string_bytes ⟦<Peer as Record>⟧.names ⟦<AliasesOf<Peer> as TakenNames>⟧.further ⟦<Document as Serialize>⟧.tree (λ m. m.entries) ⟦<PeerFields as WrittenFields>⟧.trees ⟦<Peer as Record>⟧.values };
+    ghost tree = { rest_tree string_bytes ⟦<Peer as Record>⟧.names (alias_names ⟦<Peer as HasAliases>⟧.aliases) ⟦<Document as Serialize>⟧.tree (λ m. m.entries) ⟦<PeerFields as WrittenFields>⟧.trees ⟦<Peer as Record>⟧.values };
 
     fn begin(&self, w: &mut Writer) -> Result<()> {
         write_members_and_rest::<AliasesOf<Peer>, _, _>(
@@ -124,7 +124,7 @@ impl Ranged for Peer {
 impl RoundTrip for Peer {
     fn round_trips() {
         <PeerFields as OpenFields>::open();
-        aliased_rest_round_trips::<Peer, PeerFields, Document>()
+        aliased_rest_round_trips::<Peer, PeerFields, Document, NoNames>()
     }
 }
 
