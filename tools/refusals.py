@@ -32,8 +32,8 @@ OF_PLACED = "CheckedLeaf Deserialize Field Four LeafPlace NamePlace NoField Once
 # Those of `miniserde_more`, by their module, which code names that is derived of a type with one of its words.
 OF_MORE = {
     "miniserde_more::adjacent": "Content HasContent",
-    "miniserde_more::rest": "AliasesOf NoNames OpenFields TakenNames WithRest aliased_rest_round_trips rest_lossless rest_round_trips rest_stable "
-    "write_members_and_rest",
+    "miniserde_more::rest": "AliasesOf NoNames OpenFields TagOf WithRest aliased_rest_round_trips rest_lossless rest_named rest_round_trips rest_stable "
+    "write_inside_and_rest write_members_and_rest",
     "miniserde_more::untagged": "ArrayKind BooleanKind EitherKind HasKinds NullKind NumberKind ObjectKind StringKind UntaggedCases UntaggedEnum WrittenUntagged "
     "read_untagged untagged_lossless untagged_never_null untagged_round_trips untagged_stable",
 }
@@ -305,7 +305,7 @@ def check_inside(it, part, found, known):
     elif part.of and (name not in known or name in found and found[name].kind != "struct"):
         yield f"line {part.line}: beside a tag stand the members of a struct, and `{name}` is none: write {fields}, or a struct with this field"
     for each in found[name].parts if name in found else []:
-        if it.tag in (each.written, *each.aliases):
+        if not each.rest and it.tag in (each.written, *each.aliases):
             yield f'line {each.line}: the tag of `{it.name}` is "{it.tag}" in JSON, and so is the field `{each.name}`: call one otherwise'
 
 

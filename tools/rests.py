@@ -1,8 +1,9 @@
 """The impls that `./derive` writes for a struct with a field that keeps the members that no other field takes, and what it refuses of such a struct."""
 import re
+from dataclasses import replace
 
 from impls import WRITTEN, aliases_text, chain_of, const_of, given_text, has_aliases, head_of, impl_of, lent_of, lossless_impl, nested, of, quoted, slots_of
-from impls import taken_of, typed, wrapped
+from impls import read_inside, taken_of, typed, wrapped
 
 
 def rest_of(it):
@@ -22,7 +23,7 @@ def value_of(part):
 
 def check_rests(found):
     """Refuses `rest` where no map keeps the other members, or where something else is asked of them."""
-    named = {name for it in found if it.kind == "tagged" and it.tag is not None for part in it.parts for name in re.findall(r"\w+", part.of)}
+    enums = {it.name: it for it in found}
     for it in found:
         rests = [part for part in it.parts if part.rest]
         if not rests:
@@ -38,17 +39,40 @@ def check_rests(found):
             ("closed", "refuses the members that `rest` keeps"),
             ("events", "has a place, which keeps no other members yet"),
             ("refused", "is looked for field by field, which a rest is not yet"),
-            ("inside", "stands beside a tag, which a rest would keep"),
         ):
             if word in it.words:
                 yield f"line {it.line}: a struct that is `{word}` {why}: leave out `{word}` or `rest`"
-        if it.name in named and "inside" not in it.words:
-            yield f"line {it.line}: a struct beside a tag has no `rest`: the map would keep the tag"
+        if it.variant:
+            yield f"line {line}: the fields of a variant have no `rest`: write a struct of these fields, and `{it.variant.split('::')[1]}(Struct)`"
+        elif "inside" in it.words and not it.beside:
+            yield f"line {it.line}: a struct with `rest` leaves out the tag beside it: write the enum in this file, and leave out `inside`"
+        for name in it.beside if not it.variant else []:
+            if enums[name].params:
+                yield f"line {it.line}: a struct with `rest` leaves out the tag beside it, and `{name}` has parameters: leave out `rest` or the parameters"
 
 
 def further_of(it, whole):
-    """The type that lists the names that the map leaves out besides those of the fields."""
-    return f"AliasesOf<{whole}>" if has_aliases(it) else "NoNames"
+    """The type that lists the names that the map leaves out besides those of the fields: the aliases and the tags."""
+    tags = ""
+    for name in reversed(it.beside):
+        tags = f"TagOf<{name}, {tags}>" if tags else f"TagOf<{name}>"
+    if has_aliases(it):
+        return f"AliasesOf<{whole}, {tags}>" if tags else f"AliasesOf<{whole}>"
+    return tags or "NoNames"
+
+
+def others_of(it):
+    """The type that lists them without the aliases."""
+    return further_of(replace(it, parts=[replace(part, aliases=()) for part in it.parts]), "")
+
+
+def names_of(it, whole):
+    """These names in a clause."""
+    tags = "".join(f"{of('HasTag', 'tag', name)} ∷ " for name in it.beside) + "[]"
+    if not has_aliases(it):
+        return f"({tags})" if it.beside else "[]"
+    aliases = f"alias_names {of('HasAliases', 'aliases', whole)}"
+    return f"({aliases} ++ {tags})" if it.beside else f"({aliases})"
 
 
 def rest_text(it, path):
@@ -59,10 +83,11 @@ def rest_text(it, path):
     whole = typed(it)
     record, written = of("Record", "values", whole), of("WrittenFields", "trees", chain)
     further = further_of(it, whole)
-    read = f"Aliased<{whole}, WithRest<{whole}, {chain}, {value}, {further}>>" if has_aliases(it) else f"WithRest<{whole}, {chain}, {value}>"
+    read = f"WithRest<{whole}, {chain}, {value}>" if further == "NoNames" else f"WithRest<{whole}, {chain}, {value}, {further}>"
+    read = f"Aliased<{whole}, {read}>" if has_aliases(it) else read
     made = [f"{quoted(part)} = x.1{'.1' * at}.0" for at, part in enumerate(names)] + [f"{quoted(rest.name)} = x.0"]
     meaning = f"struct_meaning {of('Slots', 'meaning', read)} {of('Record', 'names', whole)} {record}"
-    tree = f"rest_tree string_bytes {of('Record', 'names', whole)} {of('TakenNames', 'further', further)} {of('Serialize', 'tree', value)} (λ m. m.entries) {written} {record}"
+    tree = f"rest_tree string_bytes {of('Record', 'names', whole)} {names_of(it, whole)} {of('Serialize', 'tree', value)} (λ m. m.entries) {written} {record}"
     valid = f"λ v. {of('Ranged', 'valid', rest.of)} ({record} v).0 × {of('WrittenFields', 'valid', chain)} ({record} v).1"
     parts = chain_of([part.name for part in it.parts])
     return f"""{head_of(it)}
@@ -125,14 +150,14 @@ const {const}: &[&str] = &[{", ".join(f'"{part.written}"' for part in fields)}];
 {chr(10).join(f"        self.{part.name}.ranged();" for part in it.parts)}
     }}
 }}
-{laws_of(it, whole, chain, value)}"""
+{laws_of(it, whole, chain, value)}{beside_of(it, whole, chain, value, read)}"""
 
 
 def laws_of(it, whole, chain, value):
     """The impls of the laws."""
     types = f"{whole}, {chain}, {value}"
     more = f"{types}, {further_of(it, whole)}"
-    round_trips = f"aliased_rest_round_trips::<{types}>()" if has_aliases(it) else f"rest_round_trips::<{more}>()"
+    round_trips = f"aliased_rest_round_trips::<{types}, {others_of(it)}>()" if has_aliases(it) else f"rest_round_trips::<{more}>()"
     text = f"""
 {impl_of(it, "RoundTrip")} RoundTrip for {whole} {{
     fn round_trips() {{
@@ -164,3 +189,27 @@ def laws_of(it, whole, chain, value):
 }}
 """
     return text
+
+
+def beside_of(it, whole, chain, value, read):
+    """The impl of a struct whose members may stand beside a tag, which its map leaves out."""
+    if not it.beside:
+        return ""
+    further, fields = further_of(it, whole), lent_of(fields_of(it), "&self.")
+    return f"""
+{impl_of(it, WRITTEN)} Inside for {whole} {{
+    ghost fields = {{ {of('Record', 'names', whole)} }};
+
+    ghost left_out = {{ is_among {names_of(it, whole)} }};
+
+{read_inside(it, read)}
+
+    fn write_inside(&self, w: &mut Writer) -> Result<()> {{
+        write_inside_and_rest::<{further}, _, _>(w, {const_of(it.name)}, &{fields}, &self.{rest_of(it).name})
+    }}
+
+    fn is_object() {{
+        rest_named::<{whole}, {chain}, {value}, {further}>()
+    }}
+}}
+"""

@@ -1,6 +1,6 @@
 -- Members of the names, and members of other names behind them: each part is found again (`other_part`, `own_part`), and
 -- fields of some of the names look only at the first (`reads_open`). The entries that are kept have other names (`none_kept`).
-use Rattle.std.proofs.Common.{◌≡◌, suc, true, false, cond, ◌||◌, List, [], ◌∷◌, ◌++◌, Option, Some, None, refl, sym, ap, ◌∙◌, true≢false}
+use Rattle.std.proofs.Common.{◌≡◌, suc, ◌&&◌, true, false, cond, ◌||◌, List, [], ◌∷◌, ◌++◌, Option, Some, None, refl, sym, ap, ◌∙◌, true≢false}
 use Rattle.std.specs.Prelude.{◌↔◌, ⊤, bytes_eq, option_and_then}
 use Rattle.std.specs.Map.{keys_of}
 use Rattle.std.specs.List.{AllByRecursion}
@@ -17,7 +17,7 @@ use Rattle.miniserde_record.specs.FieldsMeaning.{FieldsMeaning}
 use Rattle.miniserde_record.specs.Marks.{is_among}
 use Rattle.miniserde_record.specs.Structs.{is_new, with_names}
 use Rattle.miniserde_record.proofs.Names.{same, both, count_new}
-use Rattle.miniserde_more.specs.Rest.{is_clear, others, kept, members_then, name_keys}
+use Rattle.miniserde_more.specs.Rest.{others, kept, members_then, name_keys}
 use Rattle.miniserde_more.specs.RestMeaning.{IsOpen}
 use Rattle.miniserde_more.proofs.RestKept.{kept-at}
 use Rattle.miniserde_more.proofs.RestTaken.{front}
@@ -167,13 +167,13 @@ count_then q (member k t fs) rs f r =
     → cond b (suc (count_named q (members_then fs rs))) (count_named q (members_then fs rs)) ≡ 0)
     [ true ↦ λ f. absurd (cc) | false ↦ λ f. count_then q fs rs f r ] f
 
--- no written member has a name that is clear
-pub clear_named : {K V : Type 0} (text : K → Name) (f : V → Tree) (names further : List Name) (ts : List (Option Tree)) (es : List (K × V))
-    (q : Name) → is_clear names further q ≡ true
+-- no written member has one of the further names, unless it is a field's
+pub further_named : {K V : Type 0} (text : K → Name) (f : V → Tree) (names further : List Name) (ts : List (Option Tree)) (es : List (K × V))
+    (q : Name) → (is_among further q && is_new q names) ≡ true
     → count_named q (members_then (with_names names ts) (members_of text f (kept text (further ++ names) es))) ≡ 0
-clear_named text f names further ts es q clear =
-    let h = both (is_new q names) (is_among further q) clear in
+further_named text f names further ts es q h =
+    let p = both (is_among further q) (is_new q names) h in
     let taken = further ++ names in
     let rs = members_of text f (kept text taken es) in
-    count_then q (with_names names ts) rs (count_new q names ts h.0)
-    (count_other taken q rs (none_kept taken text f es) (front further names q h.1))
+    count_then q (with_names names ts) rs (count_new q names ts p.1)
+    (count_other taken q rs (none_kept taken text f es) (front further names q p.0))

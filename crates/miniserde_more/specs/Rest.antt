@@ -7,7 +7,7 @@ use Rattle.miniserde_read.specs.types.Objects.{Name, MemberStep}
 use Rattle.miniserde_read.specs.types.Maps.{KeyMeaning, key_meaning, MapContent, map_content, map_member}
 use Rattle.miniserde_ser.specs.Trees.{members_of}
 use Rattle.miniserde_record.specs.Marks.{is_among}
-use Rattle.miniserde_record.specs.Structs.{is_new, with_names}
+use Rattle.miniserde_record.specs.Structs.{with_names}
 
 -- the members whose name is none of the names, in order
 abbrev pub others : List Name → Members → Members
@@ -74,10 +74,6 @@ rest_members text names further f entries trees values w =
 abbrev pub rest_tree : {K U M V W : Type 0} → (K → Name) → List Name → List Name → (U → Tree) → (M → List (K × U))
     → (V → List (Option Tree)) → (W → M × V) → W → Tree
 rest_tree text names further f entries trees values w = members (rest_members text names further f entries trees values w)
-
--- whether no member that is written has the name, since it is none of the fields' names and one of the further names
-abbrev pub is_clear : List Name → List Name → Name → Bool
-is_clear names further k = is_new k names && is_among further k
 
 -- at each name that is none of the names, the tree u has the normal form of what t has there
 abbrev pub KeepsOthers : List Name → Tree → Tree → Type 0

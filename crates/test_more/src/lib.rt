@@ -9,6 +9,7 @@ pub mod lists;
 pub mod notes;
 pub mod peers;
 pub mod places;
+pub mod reports;
 pub mod settings;
 #[cfg(test)]
 mod tests;

@@ -13,7 +13,7 @@ use miniserde::derived::{
 };
 use miniserde::json::Document;
 use miniserde_more::rest::{
-    AliasesOf, NoNames, OpenFields, TakenNames, WithRest, aliased_rest_round_trips, rest_lossless,
+    AliasesOf, NoNames, OpenFields, WithRest, aliased_rest_round_trips, rest_lossless,
     write_members_and_rest,
 };
 use std::collections::BTreeMap;

@@ -2,7 +2,7 @@
 ghost use Rattle.miniserde.specs.FieldsMeaning.{struct_meaning};
 ghost use Rattle.miniserde.specs.Structs.{names_of};
 ghost use Rattle.miniserde_more.specs.Rest.{rest_tree};
-ghost use Rattle.std.specs.Prelude.{string_bytes, refl};
+ghost use Rattle.std.specs.Prelude.{[], string_bytes, refl};
 
 use miniserde::derived::{
     Event, FromJson, Lossless, NeverNull, NoSlot, OmitSlot, Omitted, OnceSlot, Parts, Plain,
@@ -11,7 +11,7 @@ use miniserde::derived::{
 };
 use miniserde::json::Document;
 use miniserde_more::rest::{
-    NoNames, OpenFields, TakenNames, WithRest, rest_lossless, rest_round_trips, rest_stable,
+    NoNames, OpenFields, WithRest, rest_lossless, rest_round_trips, rest_stable,
     write_members_and_rest,
 };
 use std::collections::BTreeMap;
@@ -75,7 +75,7 @@ impl FromJson for Settings {
 }
 
 impl Serialize for Settings {
-    ghost tree = { rest_tree string_bytes ⟦<Settings as Record>⟧.names ⟦<NoNames as TakenNames>⟧.further ⟦<Document as Serialize>⟧.tree (λ m. m.entries) ⟦<SettingsFields as WrittenFields>⟧.trees ⟦<Settings as Record>⟧.values };
+    ghost tree = { rest_tree string_bytes ⟦<Settings as Record>⟧.names [] ⟦<Document as Serialize>⟧.tree (λ m. m.entries) ⟦<SettingsFields as WrittenFields>⟧.trees ⟦<Settings as Record>⟧.values };
 
     fn begin(&self, w: &mut Writer) -> Result<()> {
         write_members_and_rest::<NoNames, _, _>(

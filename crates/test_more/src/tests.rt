@@ -7,6 +7,7 @@ use crate::lists::OneOrMany;
 use crate::notes::Note;
 use crate::peers::Peer;
 use crate::places::Row;
+use crate::reports::{Health, Report};
 use crate::settings::Settings;
 use miniserde::Result;
 use miniserde::json::{Document, Value, from_str, to_string};
@@ -150,6 +151,27 @@ fn an_alias_sets_the_field(rt: HostRuntime) -> std::result::Result<(), Wrong> {
     )
 }
 
+#[test]
+fn other_members_stand_beside_a_tag(rt: HostRuntime) -> std::result::Result<(), Wrong> {
+    let alloc = rt.alloc();
+    expect_read_itself::<Report>(
+        alloc,
+        r#"{"kind":"Up","load":1,"z":null} => same
+{"z":[1],"load":1,"a":{},"kind":"Up"} => {"kind":"Up","load":1,"a":{},"z":[1]}
+{"kind":"Moved","name":"n","x":1} => same
+{"host":"n","x":1,"kind":"Moved"} => {"kind":"Moved","name":"n","x":1}
+{"kind":"Down","x":1} => {"kind":"Down"}
+{"kind":"Up","z":1}
+{"kind":"Moved","name":"n","x":"1"}
+{"load":1,"z":1}"#,
+    )?;
+    // Alone, a struct leaves out the tag too.
+    expect_read_itself::<Health>(
+        alloc,
+        "{\"kind\":\"Up\",\"load\":1,\"z\":2} => {\"load\":1,\"z\":2}",
+    )
+}
+
 // Each line is a text of settings, and its text at port 1.
 const AT_PORT_1: &str = r#"{"port":7,"name":"x"} => {"port":1,"name":"x"}
 {"z":-0,"name":"x","a":{"b":[1.50],"a":null},"port":7,"z":[],"note":"n"} => {"port":1,"name":"x","note":"n","a":{"a":null,"b":[1.50]},"z":[]}
@@ -198,4 +220,18 @@ fn has_no_alias(alloc: Global) -> Result<bool> {
 #[test]
 fn a_member_named_by_an_alias_is_not_written(rt: HostRuntime) -> std::result::Result<(), Wrong> {
     expect_ok(has_no_alias(rt.alloc()), "a member of an alias's name")
+}
+
+// Returns whether a report whose data was given a member of the tag's name is written without it.
+fn has_one_tag(alloc: Global) -> Result<bool> {
+    let mut health: Health = from_str(alloc, "{\"load\":1,\"z\":2}")?;
+    let tag = String::from_str(alloc, "kind")?;
+    health.more.insert(tag, Document { value: Value::Null })?;
+    let written = to_string(alloc, &Report::Up(health))?;
+    Ok(written.as_str() == "{\"kind\":\"Up\",\"load\":1,\"z\":2}")
+}
+
+#[test]
+fn a_member_named_as_the_tag_is_not_written(rt: HostRuntime) -> std::result::Result<(), Wrong> {
+    expect_ok(has_one_tag(rt.alloc()), "a member of the tag's name")
 }

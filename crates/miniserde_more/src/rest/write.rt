@@ -1,5 +1,5 @@
 //! Writes lent values as members, and behind them the members of a map whose names are none of theirs.
-ghost use Rattle.std.specs.Prelude.{◌≡◌, ◌++◌, true, OnOk, OnErr, IsErrOf, map, string_bytes};
+ghost use Rattle.std.specs.Prelude.{◌≡◌, ◌++◌, ◌&&◌, true, OnOk, OnErr, IsErrOf, map, string_bytes};
 ghost use Rattle.miniserde_model.specs.Tree.{members};
 ghost use Rattle.miniserde_model.specs.InRange.{MembersInRange};
 ghost use Rattle.miniserde_read.specs.types.Objects.{Name};
@@ -8,8 +8,9 @@ ghost use Rattle.miniserde_ser.specs.Writer.{WritesTree};
 ghost use Rattle.miniserde_ser.specs.Trees.{members_of};
 ghost use Rattle.miniserde_record.specs.Fields.{count_named};
 ghost use Rattle.miniserde_record.specs.InOrder.{KeepsTreesNormal};
-ghost use Rattle.miniserde_record.specs.Structs.{with_names, members_text};
-ghost use Rattle.miniserde_more.specs.Rest.{is_clear, kept, members_then, rest_members};
+ghost use Rattle.miniserde_record.specs.Marks.{is_among};
+ghost use Rattle.miniserde_record.specs.Structs.{is_new, with_names, members_text};
+ghost use Rattle.miniserde_more.specs.Rest.{kept, members_then, rest_members};
 
 use crate::rest::taken::{TakenNames, is_taken};
 use miniserde_model::error::Result;
@@ -88,14 +89,14 @@ pub fn write_members_and_rest<A: TakenNames, M: Members, V: Serialize>(
     Ok(())
 }
 
-/// Does nothing. It promises that no written member of a struct with a rest has a name that is neither a field's nor
-/// written of the map, as the further names are.
+/// Does nothing. It promises that no written member of a struct with a rest has one of the further names, unless it is a
+/// field's.
 pub fn rest_named<
     S: Record<Values = Parts<BTreeMap<String, V>, F::Values>>,
     F: WrittenFields,
     V: Serialize,
     A: TakenNames,
 >()
-    ensures { (k : Name) (v : S) → is_clear S.names A.further k ≡ true
+    ensures { (k : Name) (v : S) → (is_among A.further k && is_new k S.names) ≡ true
         → count_named k (rest_members string_bytes S.names A.further V.tree (λ m. m.entries) F.trees S.values v) ≡ 0 }
 {}
