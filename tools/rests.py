@@ -45,10 +45,10 @@ def check_rests(found):
         if it.variant:
             yield f"line {line}: the fields of a variant have no `rest`: write a struct of these fields, and `{it.variant.split('::')[1]}(Struct)`"
         elif "inside" in it.words and not it.beside:
-            yield f"line {it.line}: a struct with `rest` leaves out the tag beside it: write the enum in this file, and leave out `inside`"
+            yield f"line {it.line}: which tag `rest` leaves out cannot be told here: write the enum in this file, and leave out `inside`"
         for name in it.beside if not it.variant else []:
             if enums[name].params:
-                yield f"line {it.line}: a struct with `rest` leaves out the tag beside it, and `{name}` has parameters: leave out `rest` or the parameters"
+                yield f"line {it.line}: `rest` leaves out the tag of `{name}`, which must have no parameters: leave out `rest` or the parameters"
 
 
 def further_of(it, whole):
