@@ -33,7 +33,7 @@ OF_PLACED = "CheckedLeaf Deserialize Field Four LeafPlace NamePlace NoField Once
 OF_MORE = {
     "miniserde_more::adjacent": "Content HasContent",
     "miniserde_more::rest": "AliasesOf NoNames OpenFields TagOf WithRest aliased_rest_round_trips rest_lossless rest_named rest_round_trips rest_stable "
-    "write_inside_and_rest write_members_and_rest",
+    "write_fields_and_rest write_inside_and_rest write_members_and_rest write_tagged_fields_and_rest",
     "miniserde_more::untagged": "ArrayKind BooleanKind EitherKind HasKinds NullKind NumberKind ObjectKind StringKind UntaggedCases UntaggedEnum WrittenUntagged "
     "read_untagged untagged_lossless untagged_never_null untagged_round_trips untagged_stable",
 }

@@ -1,6 +1,5 @@
 """The impls that `./derive` writes for a struct with a field that keeps the members that no other field takes, and what it refuses of such a struct."""
 import re
-from dataclasses import replace
 
 from impls import WRITTEN, aliases_text, chain_of, const_of, given_text, has_aliases, head_of, impl_of, lent_of, lossless_impl, nested, of, quoted, slots_of
 from impls import read_inside, taken_of, typed, wrapped
@@ -42,28 +41,33 @@ def check_rests(found):
         ):
             if word in it.words:
                 yield f"line {it.line}: a struct that is `{word}` {why}: leave out `{word}` or `rest`"
-        if it.variant:
-            yield f"line {line}: the fields of a variant have no `rest`: write a struct of these fields, and `{it.variant.split('::')[1]}(Struct)`"
-        elif "inside" in it.words and not it.beside:
+        if "inside" in it.words and not it.beside:
             yield f"line {it.line}: which tag `rest` leaves out cannot be told here: write the enum in this file, and leave out `inside`"
-        for name in it.beside if not it.variant else []:
+        for name in it.beside:
             if enums[name].params:
                 yield f"line {it.line}: `rest` leaves out the tag of `{name}`, which must have no parameters: leave out `rest` or the parameters"
 
 
+def listed(aliased, enums):
+    """The type that lists the names that the map leaves out besides those of the fields: the aliases of the struct `aliased`, if
+    it has any, and the tags of the enums."""
+    more = f", {listed('', enums[1:] if not aliased else enums)}" if len(enums) > (not aliased) else ""
+    return f"AliasesOf<{aliased}{more}>" if aliased else f"TagOf<{enums[0]}{more}>" if enums else "NoNames"
+
+
 def further_of(it, whole):
-    """The type that lists the names that the map leaves out besides those of the fields: the aliases and the tags."""
-    tags = ""
-    for name in reversed(it.beside):
-        tags = f"TagOf<{name}, {tags}>" if tags else f"TagOf<{name}>"
-    if has_aliases(it):
-        return f"AliasesOf<{whole}, {tags}>" if tags else f"AliasesOf<{whole}>"
-    return tags or "NoNames"
+    """The type that lists these names of a struct."""
+    return listed(whole if has_aliases(it) else "", it.beside)
 
 
-def others_of(it):
-    """The type that lists them without the aliases."""
-    return further_of(replace(it, parts=[replace(part, aliases=()) for part in it.parts]), "")
+def written_fields(it, part, call, before, const):
+    """The call that writes a variant with named fields; `before` are the arguments in front of the fields' names."""
+    rest = next((field for field in part.fields if field.rest), None)
+    values = f"&{lent_of([field for field in part.fields if not field.rest])}"
+    if not rest:
+        return f"{call}({before}{const}, {values})"
+    further = listed(part.of if any(field.aliases for field in part.fields) else "", (it.name,) if it.tag is not None else ())
+    return f"{call}_and_rest::<{further}, _, _>({before}{const}, {values}, {rest.name})"
 
 
 def names_of(it, whole):
@@ -157,7 +161,7 @@ def laws_of(it, whole, chain, value):
     """The impls of the laws."""
     types = f"{whole}, {chain}, {value}"
     more = f"{types}, {further_of(it, whole)}"
-    round_trips = f"aliased_rest_round_trips::<{types}, {others_of(it)}>()" if has_aliases(it) else f"rest_round_trips::<{more}>()"
+    round_trips = f"aliased_rest_round_trips::<{types}, {listed('', it.beside)}>()" if has_aliases(it) else f"rest_round_trips::<{more}>()"
     text = f"""
 {impl_of(it, "RoundTrip")} RoundTrip for {whole} {{
     fn round_trips() {{

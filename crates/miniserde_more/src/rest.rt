@@ -14,4 +14,7 @@ pub use laws::{
 pub use open::OpenFields;
 pub use slots::WithRest;
 pub use taken::{AliasesOf, NoNames, TagOf, TakenNames};
-pub use write::{rest_named, write_inside_and_rest, write_members_and_rest};
+pub use write::{
+    rest_named, write_fields_and_rest, write_inside_and_rest, write_members_and_rest,
+    write_tagged_fields_and_rest,
+};

@@ -7,7 +7,7 @@ use crate::lists::OneOrMany;
 use crate::notes::Note;
 use crate::peers::Peer;
 use crate::places::Row;
-use crate::reports::{Health, Report};
+use crate::reports::{Asked, Health, Report};
 use crate::settings::Settings;
 use miniserde::Result;
 use miniserde::json::{Document, Value, from_str, to_string};
@@ -161,9 +161,20 @@ fn other_members_stand_beside_a_tag(rt: HostRuntime) -> std::result::Result<(), 
 {"kind":"Moved","name":"n","x":1} => same
 {"host":"n","x":1,"kind":"Moved"} => {"kind":"Moved","name":"n","x":1}
 {"kind":"Down","x":1} => {"kind":"Down"}
+{"kind":"Slow","path":"p","z":{}} => same
+{"z":{},"url":"p","kind":"Slow"} => {"kind":"Slow","path":"p","z":{}}
+{"kind":"Slow","z":{}}
 {"kind":"Up","z":1}
 {"kind":"Moved","name":"n","x":"1"}
 {"load":1,"z":1}"#,
+    )?;
+    expect_read_itself::<Asked>(
+        alloc,
+        r#"{"Page":{"path":"p","z":"y"}} => same
+{"Page":{"z":"y","a":"b","path":"p"}} => {"Page":{"path":"p","a":"b","z":"y"}}
+"Nothing" => same
+{"Page":{"path":"p","z":1}}
+{"Page":{"z":"y"}}"#,
     )?;
     // Alone, a struct leaves out the tag too.
     expect_read_itself::<Health>(

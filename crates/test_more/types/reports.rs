@@ -4,6 +4,10 @@ use std::collections::BTreeMap;
 pub enum Report { // tag "kind", lossless
     Up(Health),
     Moved(Place),
+    Slow {
+        path: String, // alias "url"
+        more: BTreeMap<String, Document>, // rest
+    },
     Down,
 }
 
@@ -17,4 +21,13 @@ pub struct Health { // lossless, stable
 pub struct Place { // lossless
     pub name: String, // alias "host"
     pub more: BTreeMap<String, u64>, // rest
+}
+
+/// What a server was asked, one member by the variant's name.
+pub enum Asked { // lossless, stable
+    Page {
+        path: String,
+        more: BTreeMap<String, String>, // rest
+    },
+    Nothing,
 }

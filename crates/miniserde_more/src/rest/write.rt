@@ -10,12 +10,14 @@ ghost use Rattle.miniserde_record.specs.Fields.{count_named};
 ghost use Rattle.miniserde_record.specs.InOrder.{KeepsTreesNormal};
 ghost use Rattle.miniserde_record.specs.Marks.{is_among};
 ghost use Rattle.miniserde_record.specs.Structs.{is_new, with_names, members_text};
-ghost use Rattle.miniserde_more.specs.Rest.{kept, members_then, rest_members};
+ghost use Rattle.miniserde_enum.specs.Cases.{data_tree};
+ghost use Rattle.miniserde_enum.specs.Tagging.{external, internal};
+ghost use Rattle.miniserde_more.specs.Rest.{kept, members_then, rest_members, rest_tree};
 
 use crate::rest::taken::{TakenNames, is_taken};
 use miniserde_model::error::Result;
 use miniserde_record::record::{Members, Parts, Record, WrittenFields};
-use miniserde_ser::ser::{Serialize, Writer};
+use miniserde_ser::ser::{Fragment, Serialize, Writer};
 use std::collections::BTreeMap;
 
 // Appends a member for each entry of a map whose name is neither one of the names nor one of the further names `A`, in the
@@ -87,6 +89,49 @@ pub fn write_members_and_rest<A: TakenNames, M: Members, V: Serialize>(
     write_inside_and_rest::<A, M, V>(w, names, values, rest)?;
     w.map_finish()?;
     Ok(())
+}
+
+/// Writes the variant `name` with named fields of an externally tagged enum: an object of one member, which has the
+/// variant's name and the object that `write_members_and_rest` writes. Returns `Memory` if the writer fails.
+#[inline(always)]
+pub fn write_fields_and_rest<A: TakenNames, M: Members, V: Serialize>(
+    w: &mut Writer,
+    name: &str,
+    names: &[&str],
+    values: &M,
+    rest: &BTreeMap<String, V>,
+) -> Result<()>
+    ensures { WritesTree w.old (data_tree external
+        (rest_tree string_bytes (map (λ n. n.now) names.now) A.further V.tree (λ m. m.entries) M.trees (λ v. v)) name.now
+        (rest.now, values.now)) result w.new }
+{
+    w.map_in_order()?;
+    w.key_inline(name)?;
+    write_members_and_rest::<A, M, V>(w, names, values, rest)?;
+    w.map_finish()
+}
+
+/// Writes the variant `name` with named fields of an internally tagged enum: an object of the member `tag`, whose value is
+/// the variant's name, and the members that `write_members_and_rest` writes. It does not check that none of them has the
+/// name `tag`. Returns `Memory` if the writer fails.
+#[inline(always)]
+pub fn write_tagged_fields_and_rest<A: TakenNames, M: Members, V: Serialize>(
+    w: &mut Writer,
+    tag: &str,
+    name: &str,
+    names: &[&str],
+    values: &M,
+    rest: &BTreeMap<String, V>,
+) -> Result<()>
+    ensures { WritesTree w.old (data_tree (internal tag.now)
+        (rest_tree string_bytes (map (λ n. n.now) names.now) A.further V.tree (λ m. m.entries) M.trees (λ v. v)) name.now
+        (rest.now, values.now)) result w.new }
+{
+    w.map()?;
+    w.key_inline(tag)?;
+    w.fragment(Fragment::Str(name))?;
+    write_inside_and_rest::<A, M, V>(w, names, values, rest)?;
+    w.map_finish()
 }
 
 /// Does nothing. It promises that no written member of a struct with a rest has one of the further names, unless it is a
