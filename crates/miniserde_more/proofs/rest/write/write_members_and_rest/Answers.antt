@@ -1,5 +1,5 @@
 -- The object's members stand between its brackets (`object_text`). `map` ended the writer's flag `normal`.
-use Rattle.std.proofs.Common.{◌++◌, true, false, map, sym, ap, ◌∙◌, true≢false, string_bytes}
+use Rattle.std.proofs.Common.{◌++◌, map, sym, ap, ◌∙◌, true≢false, string_bytes}
 use Rattle.miniserde_ser.specs.Trees.{members_of}
 use Rattle.miniserde_record.specs.Structs.{with_names}
 use Rattle.miniserde_more.specs.Rest.{kept, members_then}

@@ -1,5 +1,5 @@
 -- The members of the entries that the iterator has yielded are written, if they are kept.
-use Rattle.std.proofs.Common.{◌≡◌, ◌++◌, ◌&&◌, true, map, string_bytes}
+use Rattle.std.proofs.Common.{◌≡◌, ◌++◌, ◌&&◌, map, string_bytes}
 use Rattle.std.specs.Map.Iter.{deref_pair}
 use Rattle.miniserde_model.specs.InRange.{MembersInRange}
 use Rattle.miniserde_record.specs.InOrder.{KeepsTreesNormal}

@@ -1,5 +1,5 @@
 -- A name is taken if it is the tag (`front`), and else exactly if it is one of the other names (`behind_only`).
-use Rattle.std.proofs.Common.{◌≡◌, false, [], ◌∷◌, sym, ap, ◌∙◌}
+use Rattle.std.proofs.Common.{[], ◌∷◌, sym, ap, ◌∙◌}
 use Rattle.miniserde_record.specs.Marks.{is_among}
 use Rattle.miniserde_more.proofs.RestTaken.{front, behind_only}
 use Rattle.miniserde_more.proofs.rest.taken.TagOfTakenNames.takes.Goals as goal
