@@ -29,7 +29,7 @@ class Definition:
     a field that may be left out needs the law that the type is not written as `null`, and `bounded` are the parameters of which
     it does. `has_laws` says that the type's crate has the crate of the round trip, and `has_stored` that it has the one of stable
     types. `check` is the function that says which values a newtype takes, "" for one that takes all, and `module` its module.
-    `looked_into` are the structs of the file whose fields are looked for one by one. `may_be_null` says that an untagged enum has the kind of `null`, or may have it. `faulty` says that a line of it was refused.
+    `looked_into` are the structs of the file whose fields are looked for one by one, and `beside` the enums of the file beside whose tags a struct stands. `may_be_null` says that an untagged enum has the kind of `null`, or may have it. `faulty` says that a line of it was refused.
     """
 
     kind: str
@@ -46,6 +46,7 @@ class Definition:
     may_be_null: bool = False
     parts: list = field(default_factory=list)
     variant: str = ""
+    beside: tuple = ()
     never_null: bool = False
     bounded: set = field(default_factory=set)
     has_laws: bool = True
@@ -301,9 +302,10 @@ def mark_inside(found, known):
     for it in found:
         for part in it.parts if it.tag is not None and it.content is None else []:
             yield from check_inside(it, part, {each.name: each for each in found}, known)
-    tagged = {name.group() for it in found if it.tag is not None and it.content is None for part in it.parts if (name := re.match(NAME, part.of))}
+    tagged = [(name.group(), it.name) for it in found if it.tag is not None and it.content is None for part in it.parts if (name := re.match(NAME, part.of))]
     for it in found:
-        if it.name in tagged and it.kind == "struct" and "inside" not in it.words:
+        it.beside = tuple(dict.fromkeys(enum for name, enum in tagged if name == it.name and it.kind == "struct"))
+        if it.beside and "inside" not in it.words:
             it.words += ("inside",)
 
 

@@ -352,18 +352,24 @@ def writing_text(it):
 """
 
 
+def read_inside(it, fields):
+    """The function that reads a struct beside a tag. The enum is a parameter, of a name that the struct has not."""
+    name, tagged = typed(it), beside(it.params, ("E", "K", "W", "X", "Y"))
+    return f"""    fn read_inside<'a, {tagged}: HasTag>(token: Event<'a>, source: &mut Source<'a>) -> Result<{name}> {{
+        read_record::<{name}, BesideTag<{tagged}, {fields}>>(token, source)
+    }}"""
+
+
 def inside_text(it):
-    """The impl of a struct whose members may stand beside a tag. The enum is a parameter, of a name that the struct has not."""
+    """The impl of a struct whose members may stand beside a tag."""
     if "inside" not in it.words:
         return ""
-    name, tagged = typed(it), beside(it.params, ("E", "K", "W", "X", "Y"))
+    name = typed(it)
     return f"""
 {impl_of(it, WRITTEN)} Inside for {name} {{
     ghost fields = {{ {of('Record', 'names', name)} }};
 
-    fn read_inside<'a, {tagged}: HasTag>(token: Event<'a>, source: &mut Source<'a>) -> Result<{name}> {{
-        read_record::<{name}, BesideTag<{tagged}, {read_fields(it)}>>(token, source)
-    }}
+{read_inside(it, read_fields(it))}
 
     fn write_inside(&self, w: &mut Writer) -> Result<()> {{
         Members::write(&{lent_of(it.parts, "&self.")}, w, {const_of(it.name)})

@@ -17,6 +17,7 @@ SPECS = {
     "ExactKeys": "text-exact bool-exact char-exact",
     "FieldsMeaning": "struct_meaning",
     "KeyLaws": " ".join([*(f"{it}_key_laws" for it in [*KEYS, "bool", "char"]), "checked-back checked-exact"]),
+    "Marks": "is_among",
     "Meanings": "box_meaning",
     "Newtypes": "checked_meaning same_meaning text_value_meaning",
     "Place": "wrapper_meaning",
@@ -31,7 +32,7 @@ OF_PLACES = ("Place", "PlaceMeanings")
 # The files that `miniserde_core` leaves to a crate of laws, with their places there.
 OF_LAW_SPECS = {"ExactKeys": "miniserde_stored.specs.laws.Exact"}
 # Definitions and lemmas of `miniserde_more`, by the name of their file there.
-OF_MORE_SPECS = {"Rest": "rest_tree", "Untagged": "untagged_tree", "UntaggedMeaning": "untagged_meaning", "laws.Kinds": "by_tree"}
+OF_MORE_SPECS = {"Rest": "alias_names rest_tree", "Untagged": "untagged_tree", "UntaggedMeaning": "untagged_meaning", "laws.Kinds": "by_tree"}
 
 
 def place_of(facade, spec):
@@ -67,6 +68,8 @@ def uses_of(found, apart_from, text, facade, crate):
     prelude += ["◌≡◌"] if checked or has("TextValue") else []
     prelude += ["true"] if checked and "true" not in prelude else []
     prelude += ["Some"] if has("TextValue") else []
+    if any(part.rest for it in found for part in it.parts):
+        prelude += [name for name, word in (("[]", r"[ (]\[\]"), ("◌∷◌", "∷"), ("◌++◌", r"\+\+")) if name not in prelude and re.search(word, text)]
     prelude += [name for name in ("option_map", "string_bytes") if has(name)]
     uses += words_in("std.specs.Prelude", [*prelude, "refl"])
     of_laws = dict(OF_LAWS) if facade == "miniserde_core" else {}

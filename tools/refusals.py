@@ -33,7 +33,8 @@ OF_PLACED = "CheckedLeaf Deserialize Field Four LeafPlace NamePlace NoField Once
 # Those of `miniserde_more`, by their module, which code names that is derived of a type with one of its words.
 OF_MORE = {
     "miniserde_more::adjacent": "Content HasContent",
-    "miniserde_more::rest": "OpenFields WithRest rest_lossless rest_round_trips rest_stable write_members_and_rest",
+    "miniserde_more::rest": "AliasesOf NoNames OpenFields TagOf WithRest aliased_rest_round_trips rest_lossless rest_named rest_round_trips rest_stable "
+    "write_fields_and_rest write_inside_and_rest write_members_and_rest write_tagged_fields_and_rest",
     "miniserde_more::untagged": "ArrayKind BooleanKind EitherKind HasKinds NullKind NumberKind ObjectKind StringKind UntaggedCases UntaggedEnum WrittenUntagged "
     "read_untagged untagged_lossless untagged_never_null untagged_round_trips untagged_stable",
 }
@@ -197,12 +198,12 @@ def check_field_name(name, written, line):
 
 def check_written(it):
     """Refuses two fields or variants of one JSON name, at the second."""
-    seen = {}
-    for part in it.parts:
+    seen, parts = {}, [part for part in it.parts if not part.rest]
+    for part in parts:
         if part.written in seen:
             yield f'line {part.line}: `{part.name}` is "{part.written}" in JSON, and so is `{seen[part.written].name}` on line {seen[part.written].line}'
         seen.setdefault(part.written, part)
-    for part in it.parts:
+    for part in parts:
         for name in part.aliases:
             if name in seen:
                 yield f'line {part.line}: "{name}" is a name of `{seen[name].name}` on line {seen[name].line}: leave the alias out'
@@ -295,7 +296,7 @@ def check_inside(it, part, found, known):
     elif part.of and (name not in known or name in found and found[name].kind != "struct"):
         yield f"line {part.line}: beside a tag stand the members of a struct, and `{name}` is none: write {fields}, or a struct with this field"
     for each in found[name].parts if name in found else []:
-        if it.tag in (each.written, *each.aliases):
+        if not each.rest and it.tag in (each.written, *each.aliases):
             yield f'line {each.line}: the tag of `{it.name}` is "{it.tag}" in JSON, and so is the field `{each.name}`: call one otherwise'
 
 

@@ -1,8 +1,8 @@
 """The impls that `./derive` writes for a struct with a field that keeps the members that no other field takes, and what it refuses of such a struct."""
 import re
 
-from impls import WRITTEN, chain_of, given_text, head_of, impl_of, lent_of, lossless_impl, of, quoted, slots_of, taken_of, typed, values_of, wrapped
-from impls import nested
+from impls import WRITTEN, aliases_text, chain_of, given_text, has_aliases, head_of, impl_of, lent_of, lossless_impl, nested, of, quoted, slots_of
+from impls import read_inside, taken_of, typed, wrapped
 from plain import const_of
 
 
@@ -23,7 +23,7 @@ def value_of(part):
 
 def check_rests(found):
     """Refuses `rest` where no map keeps the other members, or where something else is asked of them."""
-    named = {name for it in found if it.kind == "tagged" and it.tag is not None for part in it.parts for name in re.findall(r"\w+", part.of)}
+    enums = {it.name: it for it in found}
     for it in found:
         rests = [part for part in it.parts if part.rest]
         if not rests:
@@ -39,14 +39,45 @@ def check_rests(found):
             ("closed", "refuses the members that `rest` keeps"),
             ("events", "has a place, which keeps no other members yet"),
             ("refused", "is looked for field by field, which a rest is not yet"),
-            ("inside", "stands beside a tag, which a rest would keep"),
         ):
             if word in it.words:
                 yield f"line {it.line}: a struct that is `{word}` {why}: leave out `{word}` or `rest`"
-        if it.name in named and "inside" not in it.words:
-            yield f"line {it.line}: a struct beside a tag has no `rest`: the map would keep the tag"
-        if any(part.aliases for part in fields_of(it)):
-            yield f"line {it.line}: a struct with `rest` has no aliases yet: leave out `alias` or `rest`"
+        if "inside" in it.words and not it.beside:
+            yield f"line {it.line}: which tag `rest` leaves out cannot be told here: write the enum in this file, and leave out `inside`"
+        for name in it.beside:
+            if enums[name].params:
+                yield f"line {it.line}: `rest` leaves out the tag of `{name}`, which must have no parameters: leave out `rest` or the parameters"
+
+
+def listed(aliased, enums):
+    """The type that lists the names that the map leaves out besides those of the fields: the aliases of the struct `aliased`, if
+    it has any, and the tags of the enums."""
+    more = f", {listed('', enums[1:] if not aliased else enums)}" if len(enums) > (not aliased) else ""
+    return f"AliasesOf<{aliased}{more}>" if aliased else f"TagOf<{enums[0]}{more}>" if enums else "NoNames"
+
+
+def further_of(it, whole):
+    """The type that lists these names of a struct."""
+    return listed(whole if has_aliases(it) else "", it.beside)
+
+
+def written_fields(it, part, call, before, const):
+    """The call that writes a variant with named fields; `before` are the arguments in front of the fields' names."""
+    rest = next((field for field in part.fields if field.rest), None)
+    values = f"&{lent_of([field for field in part.fields if not field.rest])}"
+    if not rest:
+        return f"{call}({before}{const}, {values})"
+    further = listed(part.of if any(field.aliases for field in part.fields) else "", (it.name,) if it.tag is not None else ())
+    return f"{call}_and_rest::<{further}, _, _>({before}{const}, {values}, {rest.name})"
+
+
+def names_of(it, whole):
+    """These names in a clause."""
+    tags = "".join(f"{of('HasTag', 'tag', name)} ∷ " for name in it.beside) + "[]"
+    if not has_aliases(it):
+        return f"({tags})" if it.beside else "[]"
+    aliases = f"alias_names {of('HasAliases', 'aliases', whole)}"
+    return f"({aliases} ++ {tags})" if it.beside else f"({aliases})"
 
 
 def rest_text(it, path):
@@ -56,10 +87,12 @@ def rest_text(it, path):
     names = [part.name for part in fields]
     whole = typed(it)
     record, written = of("Record", "values", whole), of("WrittenFields", "trees", chain)
-    read = f"WithRest<{whole}, {chain}, {value}>"
+    further = further_of(it, whole)
+    read = f"WithRest<{whole}, {chain}, {value}>" if further == "NoNames" else f"WithRest<{whole}, {chain}, {value}, {further}>"
+    read = f"Aliased<{whole}, {read}>" if has_aliases(it) else read
     made = [f"{quoted(part)} = x.1{'.1' * at}.0" for at, part in enumerate(names)] + [f"{quoted(rest.name)} = x.0"]
     meaning = f"struct_meaning {of('Slots', 'meaning', read)} {of('Record', 'names', whole)} {record}"
-    tree = f"rest_tree string_bytes {of('Record', 'names', whole)} {of('Serialize', 'tree', value)} (λ m. m.entries) {written} {record}"
+    tree = f"rest_tree string_bytes {of('Record', 'names', whole)} {names_of(it, whole)} {of('Serialize', 'tree', value)} (λ m. m.entries) {written} {record}"
     valid = f"λ v. {of('Ranged', 'valid', rest.of)} ({record} v).0 × {of('WrittenFields', 'valid', chain)} ({record} v).1"
     parts = chain_of([part.name for part in it.parts])
     return f"""{head_of(it)}
@@ -94,7 +127,7 @@ const {const}: &[&str] = &[{", ".join(f'"{part.written}"' for part in fields)}];
         {name} {{ {", ".join(part.name for part in it.parts)} }}
     }}
 }}
-
+{aliases_text(it, path)}
 {impl_of(it, "FromJson")} FromJson for {whole} {{
 {wrapped("means", meaning)}
 
@@ -111,7 +144,7 @@ const {const}: &[&str] = &[{", ".join(f'"{part.written}"' for part in fields)}];
 {wrapped("tree", tree)}
 
     fn begin(&self, w: &mut Writer) -> Result<()> {{
-        write_members_and_rest(w, {const}, &{lent_of(fields, "&self.")}, &self.{rest.name})
+        write_members_and_rest::<{further}, _, _>(w, {const}, &{lent_of(fields, "&self.")}, &self.{rest.name})
     }}
 }}
 
@@ -122,17 +155,19 @@ const {const}: &[&str] = &[{", ".join(f'"{part.written}"' for part in fields)}];
 {chr(10).join(f"        self.{part.name}.ranged();" for part in it.parts)}
     }}
 }}
-{laws_of(it, whole, chain, value)}"""
+{laws_of(it, whole, chain, value)}{beside_of(it, whole, chain, value, read)}"""
 
 
 def laws_of(it, whole, chain, value):
     """The impls of the laws."""
     types = f"{whole}, {chain}, {value}"
+    more = f"{types}, {further_of(it, whole)}"
+    round_trips = f"aliased_rest_round_trips::<{types}, {listed('', it.beside)}>()" if has_aliases(it) else f"rest_round_trips::<{more}>()"
     text = f"""
 {impl_of(it, "RoundTrip")} RoundTrip for {whole} {{
     fn round_trips() {{
         <{chain} as OpenFields>::open();
-        rest_round_trips::<{types}>()
+        {round_trips}
     }}
 }}
 """ if it.has_laws else ""
@@ -140,7 +175,7 @@ def laws_of(it, whole, chain, value):
         text += f"""
 {lossless_impl(it)} Lossless for {whole} {{
     fn lossless() {{
-        rest_lossless::<{types}>()
+        rest_lossless::<{more}>()
     }}
 }}
 """
@@ -154,8 +189,32 @@ def laws_of(it, whole, chain, value):
         text += f"""
 {impl_of(it, "Stable")} Stable for {whole} {{
     fn stable() {{
-        rest_stable::<{types}>()
+        rest_stable::<{more}>()
     }}
 }}
 """
     return text
+
+
+def beside_of(it, whole, chain, value, read):
+    """The impl of a struct whose members may stand beside a tag, which its map leaves out."""
+    if not it.beside:
+        return ""
+    further, fields = further_of(it, whole), lent_of(fields_of(it), "&self.")
+    return f"""
+{impl_of(it, WRITTEN)} Inside for {whole} {{
+    ghost fields = {{ {of('Record', 'names', whole)} }};
+
+    ghost left_out = {{ is_among {names_of(it, whole)} }};
+
+{read_inside(it, read)}
+
+    fn write_inside(&self, w: &mut Writer) -> Result<()> {{
+        write_inside_and_rest::<{further}, _, _>(w, {const_of(it.name)}, &{fields}, &self.{rest_of(it).name})
+    }}
+
+    fn is_object() {{
+        rest_named::<{whole}, {chain}, {value}, {further}>()
+    }}
+}}
+"""

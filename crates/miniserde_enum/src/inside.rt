@@ -30,6 +30,10 @@ pub trait Inside: Ranged + Serialize + FromJson {
     // The names of the struct's fields.
     ghost fields: { List Name };
 
+    // Whether no member of the name is written beside the fields. It is true of all names if the fields are all that is
+    // written.
+    ghost left_out: { Name → Bool } = { λ k. true };
+
     /// Reads one object, whose first token is `token`, and takes no more of the source. Members with the name of the
     /// tag of `E` are skipped. Returns `Invalid` if the text, from `token` on, has no prefix that is an object whose
     /// other members mean a value of the struct, and `Memory` if an allocation fails.
@@ -51,10 +55,10 @@ pub trait Inside: Ranged + Serialize + FromJson {
         ensures err { OnErr result (w.new.refused ≡ true) };
 
     /// Does nothing. It promises that the tree of each value is an object, and that each of its members has the name
-    /// of a field.
+    /// of a field, or one that is not left out.
     fn is_object()
         ensures object { (v : Self) → Self.tree v ≡ members (object_members (Self.tree v)) }
-        ensures named { (k : Name) (v : Self) → is_new k fields ≡ true
+        ensures named { (k : Name) (v : Self) → (left_out k && is_new k fields) ≡ true
             → count_named k (object_members (Self.tree v)) ≡ 0 };
 }
 
@@ -76,7 +80,7 @@ pub trait InsideCases {
     // the variant's name and the tree of its data.
     ghost fits: { Tagging → Type 0 };
 
-    // Whether no field of any of the variants has the name.
+    // Whether no written member of any of the variants has the name.
     ghost apart: { Name → Bool };
 
     /// Reads one object, whose first token is `token`, as the data of the variant with the name
@@ -95,7 +99,7 @@ pub trait InsideCases {
         ensures { Reads (inside_of E.tag (with_data (meaning.content_by_name (map (λ n. n.now) names.now) name.now)))
             meaning.content (event_of_token token.entry source.old.scratch) source.old result source.new };
 
-    /// Does nothing. It promises that internal tagging fits if no field has the name of the tag.
+    /// Does nothing. It promises that internal tagging fits if no written member has the name of the tag.
     fn fit()
         ensures { (tag : Name) → apart tag ≡ true → fits (internal tag) };
 }
@@ -128,7 +132,7 @@ impl<T: Inside, R: InsideCases> InsideCases for DataCase<T, R> {
 
     ghost fits = { λ tagging. DataFits T.valid T.tree tagging × R.fits tagging };
 
-    ghost apart = { λ tag. is_new tag T.fields && R.apart tag };
+    ghost apart = { λ tag. (T.left_out tag && is_new tag T.fields) && R.apart tag };
 
     fn read_inside<'a, E: HasTag>(
         names: &[&str],

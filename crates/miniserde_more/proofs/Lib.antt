@@ -1,3 +1,4 @@
+pub mod RestAliases
 pub mod RestBeside
 pub mod RestDues
 pub mod RestKept
@@ -6,6 +7,7 @@ pub mod RestRoundTrips
 pub mod RestSkipped
 pub mod RestStable
 pub mod RestStays
+pub mod RestTaken
 pub mod RestTexts
 pub mod UntaggedFirsts
 pub mod UntaggedLaws

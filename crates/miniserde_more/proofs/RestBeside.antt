@@ -1,6 +1,6 @@
 -- Members of the names, and members of other names behind them: each part is found again (`other_part`, `own_part`), and
--- fields of the names look at the first alone (`reads_open`). The entries that are kept have other names (`none_kept`).
-use Rattle.std.proofs.Common.{◌≡◌, true, false, cond, ◌||◌, List, [], ◌∷◌, Option, Some, None, refl, sym, ap, ◌∙◌, true≢false}
+-- fields of some of the names look only at the first (`reads_open`). The entries that are kept have other names (`none_kept`).
+use Rattle.std.proofs.Common.{◌≡◌, suc, ◌&&◌, true, false, cond, ◌||◌, List, [], ◌∷◌, ◌++◌, Option, Some, None, refl, sym, ap, ◌∙◌, true≢false}
 use Rattle.std.specs.Prelude.{◌↔◌, ⊤, bytes_eq, option_and_then}
 use Rattle.std.specs.Map.{keys_of}
 use Rattle.std.specs.List.{AllByRecursion}
@@ -12,13 +12,15 @@ use Rattle.miniserde_read.specs.types.Objects.{Name, after_members}
 use Rattle.miniserde_read.specs.types.Maps.{first_and_last, first_and_last_at, entry_at, EntryFits, MapReads}
 use Rattle.miniserde_read.proofs.Entries.{equal_if_tested}
 use Rattle.miniserde_ser.specs.Trees.{members_of}
+use Rattle.miniserde_record.specs.Fields.{count_named}
 use Rattle.miniserde_record.specs.FieldsMeaning.{FieldsMeaning}
 use Rattle.miniserde_record.specs.Marks.{is_among}
-use Rattle.miniserde_record.specs.Structs.{with_names}
-use Rattle.miniserde_record.proofs.Names.{same}
+use Rattle.miniserde_record.specs.Structs.{is_new, with_names}
+use Rattle.miniserde_record.proofs.Names.{same, both, count_new}
 use Rattle.miniserde_more.specs.Rest.{others, kept, members_then, name_keys}
 use Rattle.miniserde_more.specs.RestMeaning.{IsOpen}
 use Rattle.miniserde_more.proofs.RestKept.{kept-at}
+use Rattle.miniserde_more.proofs.RestTaken.{front}
 
 module _ (ns : List Name) where
   -- the members of the names
@@ -68,7 +70,7 @@ module _ (ns : List Name) where
       later : (n : Name) (names : List Name) (k : Name) → is_among names k ≡ true → is_among (n ∷ names) k ≡ true
       later n names k e = elim (bytes_eq k n) as (λ b. (b || is_among names k) ≡ true) [ true ↦ refl | false ↦ e ]
 
-  -- ---- fields of the names
+  -- ---- fields of some of the names
 
   module _ {S : Type 0} (next : S → Name → Tree → Option S)
       (skips : (s : S) (k : Name) (t : Tree) → is_among ns k ≡ false → next s k t ≡ Some s) where
@@ -82,15 +84,16 @@ module _ (ns : List Name) where
         as (λ o. option_and_then (λ r. after_members next r (members_then fs rs)) o ≡ option_and_then (λ r. after_members next r fs) o)
         [ None ↦ refl | Some r ↦ after_then r fs rs n ]
 
-  pub reads_open : {W : Type 0} (n : FieldsMeaning W) → IsOpen n → (fs rs : Members) (v : W) → NoneOwn rs
-      → n.reads [] ns (members_then fs rs) v ↔ n.reads [] ns fs v
-  reads_open n open_n fs rs v none =
-      let e : n.from_members ns n.empty (members_then fs rs) ≡ n.from_members ns n.empty fs =
-      sym (n.members_agree ns n.empty (members_then fs rs))
-      ∙ ap (option_and_then n.end) (after_then (n.next_state ns) (λ s k t h. open_n ns s k t h) n.empty fs rs none)
-      ∙ n.members_agree ns n.empty fs in
-      let all = n.reads_agrees [] ns (members_then fs rs) v in
-      let front = n.reads_agrees [] ns fs v in
+  pub reads_open : {W : Type 0} (n : FieldsMeaning W) → IsOpen n → (names : List Name)
+      → ((k : Name) → is_among ns k ≡ false → is_among names k ≡ false) → (fs rs : Members) (v : W) → NoneOwn rs
+      → n.reads [] names (members_then fs rs) v ↔ n.reads [] names fs v
+  reads_open n open_n names within fs rs v none =
+      let e : n.from_members names n.empty (members_then fs rs) ≡ n.from_members names n.empty fs =
+      sym (n.members_agree names n.empty (members_then fs rs))
+      ∙ ap (option_and_then n.end) (after_then (n.next_state names) (λ s k t h. open_n names s k t (within k h)) n.empty fs rs none)
+      ∙ n.members_agree names n.empty fs in
+      let all = n.reads_agrees [] names (members_then fs rs) v in
+      let front = n.reads_agrees [] names fs v in
       (λ h. front.1 (sym e ∙ all.0 h), λ h. all.1 (e ∙ front.0 h))
 
   -- ---- entries
@@ -147,3 +150,30 @@ module _ (ns : List Name) where
           | false ↦ λ b. rw (kept-at text ns q es, b) (h.1 q)
         ] refl,
   )
+
+  -- members of other names have none of the names
+  count_other : (q : Name) (rs : Members) → NoneOwn rs → is_among ns q ≡ true → count_named q rs ≡ 0
+  count_other q no_members n e = refl
+  count_other q (member k t rs) n e =
+      elim (bytes_eq k q) as (λ b. bytes_eq k q ≡ b → cond b (suc (count_named q rs)) (count_named q rs) ≡ 0) [
+        | true ↦ λ b. absurd (true≢false (sym e ∙ ap (is_among ns) (sym (equal_if_tested k q b)) ∙ n.0))
+        | false ↦ λ b. count_other q rs n.1 e
+      ] refl
+
+count_then : (q : Name) (fs rs : Members) → count_named q fs ≡ 0 → count_named q rs ≡ 0 → count_named q (members_then fs rs) ≡ 0
+count_then q no_members rs f r = r
+count_then q (member k t fs) rs f r =
+    elim (bytes_eq k q) as (λ b. cond b (suc (count_named q fs)) (count_named q fs) ≡ 0
+    → cond b (suc (count_named q (members_then fs rs))) (count_named q (members_then fs rs)) ≡ 0)
+    [ true ↦ λ f. absurd (cc) | false ↦ λ f. count_then q fs rs f r ] f
+
+-- no written member has one of the further names, unless it is a field's
+pub further_named : {K V : Type 0} (text : K → Name) (f : V → Tree) (names further : List Name) (ts : List (Option Tree)) (es : List (K × V))
+    (q : Name) → (is_among further q && is_new q names) ≡ true
+    → count_named q (members_then (with_names names ts) (members_of text f (kept text (further ++ names) es))) ≡ 0
+further_named text f names further ts es q h =
+    let p = both (is_among further q) (is_new q names) h in
+    let taken = further ++ names in
+    let rs = members_of text f (kept text taken es) in
+    count_then q (with_names names ts) rs (count_new q names ts p.1)
+    (count_other taken q rs (none_kept taken text f es) (front further names q p.0))

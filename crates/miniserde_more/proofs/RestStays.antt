@@ -1,6 +1,6 @@
--- The other members stay: at each name that is no field's, the written object has the tree of the map's entry there
+-- The other members stay: at each name that is not taken, the written object has the tree of the map's entry there
 -- (`last_written`), and that is the value of the last member of that name (`stays`).
-use Rattle.std.proofs.Common.{◌≡◌, Bool, true, false, cond, List, [], ◌∷◌, Option, Some, None, refl, sym, ap, ◌∙◌, subst}
+use Rattle.std.proofs.Common.{◌≡◌, Bool, true, false, cond, List, [], ◌∷◌, ◌++◌, Option, Some, None, refl, sym, ap, ◌∙◌, subst}
 use Rattle.std.proofs.Common.{true≢false}
 use Rattle.std.specs.Prelude.{bytes_eq, option_map}
 use Rattle.std.specs.Map.{keys_of, lookup}
@@ -25,11 +25,12 @@ use Rattle.miniserde_record.specs.Fields.{StructReads}
 use Rattle.miniserde_record.specs.Marks.{is_among}
 use Rattle.miniserde_record.specs.Structs.{with_names}
 use Rattle.miniserde_more.specs.Rest.{others, kept, members_then, name_keys}
+use Rattle.miniserde_more.proofs.RestTaken.{named}
 use Rattle.miniserde_more.proofs.RestBeside.{AllOwn, all_of_names, kept_sorted}
 
 module _ (ns : List Name) (q : Name) (other : is_among ns q ≡ false) where
   -- a member of one of the names has another name
-  another : (k : Name) → is_among ns k ≡ true → bytes_eq k q ≡ false
+  pub another : (k : Name) → is_among ns k ≡ true → bytes_eq k q ≡ false
   another k h = elim (bytes_eq k q) as (λ b. bytes_eq k q ≡ b → b ≡ false) [
     | true ↦ λ b. absurd (true≢false (sym h ∙ ap (is_among ns) (equal_if_tested k q b) ∙ other))
     | false ↦ λ b. refl
@@ -102,21 +103,21 @@ pub normal_there : {V : Type 0} (R : Tree → V → Type 0) (f : V → Tree) →
 normal_there R f normal t None h = ap (option_map norm) (sym h)
 normal_there R f normal t (Some x) h = ap Some (normal h.0 x h.2) ∙ ap (option_map norm) (sym h.1)
 
--- the written object has at another name than the fields' what the object had that was read
-pub stays : {K V C : Type 0} (text : K → Name) (ns : List Name) (f : V → Tree) (of : Tree → Option C) (R : Tree → V → Type 0)
+-- the written object has at a name that is not taken what the object had that was read
+pub stays : {K V C : Type 0} (text : K → Name) (ns more : List Name) (f : V → Tree) (of : Tree → Option C) (R : Tree → V → Type 0)
     (cmp : K → K → Ordering) → ((a b : K) → is_eq (cmp a b) ≡ bytes_eq (text a) (text b))
-    → ((t : Tree) (x : V) → R t x → f x ≡ norm t) → (q : Name) → is_among ns q ≡ false → (ts : List (Option Tree)) (es : List (K × V))
+    → ((t : Tree) (x : V) → R t x → f x ≡ norm t) → (q : Name) → is_among (more ++ ns) q ≡ false → (ts : List (Option Tree)) (es : List (K × V))
     → IsStrictlySortedBy cmp (keys_of es) → (ms : Members)
-    → MapReads (name_keys text) of R (members (others ns ms)) (kept text ns es)
-    → last_of q (members_then (with_names ns ts) (members_of text f (kept text ns es))) ≡ option_map norm (last_of q ms)
-stays {K} text ns f of R cmp agrees normal q other ts es sorted ms reads =
+    → MapReads (name_keys text) of R (members (others (more ++ ns) ms)) (kept text (more ++ ns) es)
+    → last_of q (members_then (with_names ns ts) (members_of text f (kept text (more ++ ns) es))) ≡ option_map norm (last_of q ms)
+stays {K} text ns more f of R cmp agrees normal q other ts es sorted ms reads =
     let there : K → Bool = λ k. bytes_eq (text k) q in
-    let met : IsValueOf R (last_of q (others ns ms)) (lookup there (kept text ns es)) =
-    last_name text R of (members (others ns ms)) (kept text ns es) reads there q (λ k. refl) in
-    last_behind ns q other (with_names ns ts) (members_of text f (kept text ns es)) (all_of_names ns ns ts (λ k h. h))
-    ∙ last_written text f q cmp agrees (kept text ns es) (kept_sorted ns text cmp es sorted)
-    ∙ normal_there R f normal (last_of q ms) (lookup there (kept text ns es))
-    (subst (λ o. IsValueOf R o (lookup there (kept text ns es))) (last_other ns q other ms) met)
+    let met : IsValueOf R (last_of q (others (more ++ ns) ms)) (lookup there (kept text (more ++ ns) es)) =
+    last_name text R of (members (others (more ++ ns) ms)) (kept text (more ++ ns) es) reads there q (λ k. refl) in
+    last_behind (more ++ ns) q other (with_names ns ts) (members_of text f (kept text (more ++ ns) es)) (all_of_names (more ++ ns) ns ts (named more ns))
+    ∙ last_written text f q cmp agrees (kept text (more ++ ns) es) (kept_sorted (more ++ ns) text cmp es sorted)
+    ∙ normal_there R f normal (last_of q ms) (lookup there (kept text (more ++ ns) es))
+    (subst (λ o. IsValueOf R o (lookup there (kept text (more ++ ns) es))) (last_other (more ++ ns) q other ms) met)
 
 -- names tie in byte order exactly if they are equal
 pub names_agree : (a b : Name) → is_eq (text_cmp a b) ≡ bytes_eq a b

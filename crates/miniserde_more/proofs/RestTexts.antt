@@ -4,9 +4,10 @@ use Rattle.std.proofs.Common.{◌≡◌, ℕ, Bool, true, false, cond, ◌&&◌,
 use Rattle.std.proofs.lemmas.List.{append-nil}
 use Rattle.miniserde_model.specs.Tree.{Tree, members, Members, no_members, member}
 use Rattle.miniserde_model.specs.Compact.{compact, string_text, compact_more_members}
+use Rattle.miniserde_model.specs.Normal.{norm}
 use Rattle.miniserde_model.specs.InRange.{InRange, MembersInRange}
 use Rattle.miniserde_read.specs.types.Objects.{Name}
-use Rattle.miniserde_ser.specs.Trees.{members_of}
+use Rattle.miniserde_ser.specs.Trees.{members_of, TreesAreNormal}
 use Rattle.miniserde_record.specs.Marks.{is_among, has_no_members}
 use Rattle.miniserde_record.specs.Structs.{members_text}
 use Rattle.miniserde_more.specs.Rest.{kept, members_then}
@@ -28,6 +29,11 @@ text_then false (member k t ms) ns = rw (more_then ms ns) (simp append_assoc ref
 pub range_then : (ms ns : Members) → MembersInRange ms → MembersInRange ns → MembersInRange (members_then ms ns)
 range_then no_members ns p q = q
 range_then (member k t ms) ns p q = (p.0, p.1, range_then ms ns p.2 q)
+
+-- the trees are in normal form if those before and those behind are
+pub normal_then : (ms ns : Members) → TreesAreNormal ms → TreesAreNormal ns → TreesAreNormal (members_then ms ns)
+normal_then no_members ns p q = q
+normal_then (member k t ms) ns p q = (p.0, normal_then ms ns p.1 q)
 
 -- there are none if there are none before and none behind
 pub none_then : (ms ns : Members) → has_no_members (members_then ms ns) ≡ (has_no_members ms && has_no_members ns)
@@ -76,6 +82,11 @@ module _ {K V : Type 0} (text : K → Name) (f : V → Tree) (ns : List Name) wh
       → IsUtf8 (text e.0) → InRange (f e.1) → MembersInRange (written (es ++ e ∷ []))
   range_step es e h r u i = rw (written_other es e h) (range_then (written es) (member (text e.0) (f e.1) no_members) r (u, i, tt))
 
+  -- their trees are in normal form
+  pub normal_step : (es : List (K × V)) (e : K × V) → is_among ns (text e.0) ≡ false → TreesAreNormal (written es)
+      → norm (f e.1) ≡ f e.1 → TreesAreNormal (written (es ++ e ∷ []))
+  normal_step es e h p q = rw (written_other es e h) (normal_then (written es) (member (text e.0) (f e.1) no_members) p (q, tt))
+
   -- after a member was written the next one is not the first
   pub first_step : (es : List (K × V)) (e : K × V) (b : Bool) {new : Bool} → is_among ns (text e.0) ≡ false → new ≡ false
       → new ≡ (has_no_members (written (es ++ e ∷ [])) && b)
@@ -87,8 +98,12 @@ module _ {K V : Type 0} (text : K → Name) (f : V → Tree) (ns : List Name) wh
 pub found : (names : List Name) {k n : Name} {b c : Bool} → n ≡ k → b ≡ is_among names n → b ≡ c → is_among names k ≡ c
 found names s f e = ap (is_among names) (sym s) ∙ sym f ∙ e
 
--- the text of an object whose members were written in two parts
-pub object_text : (fs rs : Members) (old : List ℕ) {opened mid done new : List ℕ} {first next : Bool} → opened ≡ old ++ 123 ∷ []
-    → first ≡ true → mid ≡ opened ++ members_text first fs → next ≡ (has_no_members fs && first)
-    → done ≡ mid ++ members_text next rs → new ≡ done ++ 125 ∷ [] → new ≡ old ++ compact (members (members_then fs rs))
-object_text fs rs old o f m x d n = rw (n, d, x, m, f, o, text_then true fs rs) (simp append_assoc refl)
+-- the text of members that were written in two parts
+pub parts_text : (fs rs : Members) (old : List ℕ) (first : Bool) {mid new : List ℕ} {next : Bool} → mid ≡ old ++ members_text first fs
+    → next ≡ (has_no_members fs && first) → new ≡ mid ++ members_text next rs → new ≡ old ++ members_text first (members_then fs rs)
+parts_text fs rs old first m x n = rw (n, x, m, text_then first fs rs) (simp append_assoc refl)
+
+-- the text of an object whose members were written
+pub object_text : (ms : Members) (old : List ℕ) {opened done new : List ℕ} {first : Bool} → opened ≡ old ++ 123 ∷ [] → first ≡ true
+    → done ≡ opened ++ members_text first ms → new ≡ done ++ 125 ∷ [] → new ≡ old ++ compact (members ms)
+object_text ms old o f d n = rw (n, d, f, o) (simp append_assoc refl)

@@ -1,5 +1,5 @@
 -- The members of a struct's object that no field takes, and the entries of a map that are written as such members.
-use Rattle.std.specs.Prelude.{true, false, List, [], ◌∷◌, Option, Some, None, option_map, if◌then◌else◌, codes, ◌≡◌, refl}
+use Rattle.std.specs.Prelude.{◌&&◌, Bool, true, false, List, [], ◌∷◌, ◌++◌, Option, Some, None, option_map, if◌then◌else◌, codes, ◌≡◌, refl}
 use Rattle.miniserde_model.specs.Normal.{norm}
 use Rattle.miniserde_model.specs.Tree.{Tree, null, truth, members, Members, no_members, member}
 use Rattle.miniserde_read.specs.Lookups.{last_in}
@@ -51,18 +51,29 @@ b_is_left = refl
 pub b_is_kept : kept (λ k. k) (codes "a" ∷ []) ((codes "a", false) ∷ (codes "b", true) ∷ []) ≡ (codes "b", true) ∷ []
 b_is_kept = refl
 
--- the members that are written of the struct w: its fields' members, with their names and the trees that `trees` returns for
--- the fields' values, and behind them the map's members, except those of the names; `values` returns the map and the fields'
--- values, `entries` the map's entries, `text` the name of a key and f the tree of a value
-abbrev pub rest_members : {K U M V W : Type 0} → (K → Name) → List Name → (U → Tree) → (M → List (K × U)) → (V → List (Option Tree))
-    → (W → M × V) → W → Members
-rest_members text names f entries trees values w =
-    members_then (with_names names (trees (values w).1)) (members_of text f (kept text names (entries (values w).0)))
+-- the names of the aliases, by a list of aliases, each with the name of its field
+abbrev pub alias_names : List (Name × Name) → List Name
+alias_names [] = []
+alias_names (p ∷ ps) = p.0 ∷ alias_names ps
+
+-- whether, by a list of aliases, each is an alias of one of the names
+abbrev pub are_of_names : List (Name × Name) → List Name → Bool
+are_of_names [] ns = true
+are_of_names (p ∷ ps) ns = is_among ns p.1 && are_of_names ps ns
+
+-- The members that are written of the struct w: its fields' members, with their names and the trees that `trees` returns for
+-- the fields' values, and behind them the map's members, except those of the names and of the further names, as aliases.
+-- `values` returns the map and the fields' values, `entries` the map's entries, `text` the name of a key and f the tree of a
+-- value.
+abbrev pub rest_members : {K U M V W : Type 0} → (K → Name) → List Name → List Name → (U → Tree) → (M → List (K × U))
+    → (V → List (Option Tree)) → (W → M × V) → W → Members
+rest_members text names further f entries trees values w =
+    members_then (with_names names (trees (values w).1)) (members_of text f (kept text (further ++ names) (entries (values w).0)))
 
 -- the tree of the struct: the object of these members
-abbrev pub rest_tree : {K U M V W : Type 0} → (K → Name) → List Name → (U → Tree) → (M → List (K × U)) → (V → List (Option Tree))
-    → (W → M × V) → W → Tree
-rest_tree text names f entries trees values w = members (rest_members text names f entries trees values w)
+abbrev pub rest_tree : {K U M V W : Type 0} → (K → Name) → List Name → List Name → (U → Tree) → (M → List (K × U))
+    → (V → List (Option Tree)) → (W → M × V) → W → Tree
+rest_tree text names further f entries trees values w = members (rest_members text names further f entries trees values w)
 
 -- at each name that is none of the names, the tree u has the normal form of what t has there
 abbrev pub KeepsOthers : List Name → Tree → Tree → Type 0

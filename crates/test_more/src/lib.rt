@@ -7,7 +7,9 @@ pub mod calls;
 pub mod kinds;
 pub mod lists;
 pub mod notes;
+pub mod peers;
 pub mod places;
+pub mod reports;
 pub mod settings;
 #[cfg(test)]
 mod tests;

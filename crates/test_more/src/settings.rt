@@ -2,7 +2,7 @@
 ghost use Rattle.miniserde.specs.FieldsMeaning.{struct_meaning};
 ghost use Rattle.miniserde.specs.Structs.{names_of};
 ghost use Rattle.miniserde_more.specs.Rest.{rest_tree};
-ghost use Rattle.std.specs.Prelude.{string_bytes, refl};
+ghost use Rattle.std.specs.Prelude.{[], string_bytes, refl};
 
 use miniserde::derived::{
     Event, FromJson, Lossless, NeverNull, NoSlot, OmitSlot, Omitted, OnceSlot, Parts, Plain,
@@ -11,7 +11,8 @@ use miniserde::derived::{
 };
 use miniserde::json::Document;
 use miniserde_more::rest::{
-    OpenFields, WithRest, rest_lossless, rest_round_trips, rest_stable, write_members_and_rest,
+    NoNames, OpenFields, WithRest, rest_lossless, rest_round_trips, rest_stable,
+    write_members_and_rest,
 };
 use std::collections::BTreeMap;
 
@@ -74,10 +75,10 @@ impl FromJson for Settings {
 }
 
 impl Serialize for Settings {
-    ghost tree = { rest_tree string_bytes ⟦<Settings as Record>⟧.names ⟦<Document as Serialize>⟧.tree (λ m. m.entries) ⟦<SettingsFields as WrittenFields>⟧.trees ⟦<Settings as Record>⟧.values };
+    ghost tree = { rest_tree string_bytes ⟦<Settings as Record>⟧.names [] ⟦<Document as Serialize>⟧.tree (λ m. m.entries) ⟦<SettingsFields as WrittenFields>⟧.trees ⟦<Settings as Record>⟧.values };
 
     fn begin(&self, w: &mut Writer) -> Result<()> {
-        write_members_and_rest(
+        write_members_and_rest::<NoNames, _, _>(
             w,
             SETTINGS_NAMES,
             &Parts(
@@ -103,13 +104,13 @@ impl Ranged for Settings {
 impl RoundTrip for Settings {
     fn round_trips() {
         <SettingsFields as OpenFields>::open();
-        rest_round_trips::<Settings, SettingsFields, Document>()
+        rest_round_trips::<Settings, SettingsFields, Document, NoNames>()
     }
 }
 
 impl Lossless for Settings {
     fn lossless() {
-        rest_lossless::<Settings, SettingsFields, Document>()
+        rest_lossless::<Settings, SettingsFields, Document, NoNames>()
     }
 }
 
@@ -119,6 +120,6 @@ impl NeverNull for Settings {
 
 impl Stable for Settings {
     fn stable() {
-        rest_stable::<Settings, SettingsFields, Document>()
+        rest_stable::<Settings, SettingsFields, Document, NoNames>()
     }
 }

@@ -5,7 +5,9 @@ use crate::calls::at_port;
 use crate::kinds::{Counts, Setting, Work};
 use crate::lists::OneOrMany;
 use crate::notes::Note;
+use crate::peers::Peer;
 use crate::places::Row;
+use crate::reports::{Asked, Health, Report};
 use crate::settings::Settings;
 use miniserde::Result;
 use miniserde::json::{Document, Value, from_str, to_string};
@@ -134,6 +136,53 @@ fn other_members_are_read_itself(rt: HostRuntime) -> std::result::Result<(), Wro
     )
 }
 
+#[test]
+fn an_alias_sets_the_field(rt: HostRuntime) -> std::result::Result<(), Wrong> {
+    expect_read_itself::<Peer>(
+        rt.alloc(),
+        r#"{"name":"a","port":1} => same
+{"host":"a","z":1,"p":2} => {"name":"a","port":2,"z":1}
+{"z":1,"hostname":"a","y":null,"name":"b","host":"c"} => {"name":"c","port":80,"y":null,"z":1}
+{"h\u006fst":"a","hosts":"b","Host":"c","labels":{}} => {"name":"a","port":80,"Host":"c","hosts":"b","labels":{}}
+{"p":1,"p":2,"name":"a"} => {"name":"a","port":2}
+{"host":1,"name":"a"}
+{"name":"a","p":"1"}
+{"p":1,"z":2}"#,
+    )
+}
+
+#[test]
+fn other_members_stand_beside_a_tag(rt: HostRuntime) -> std::result::Result<(), Wrong> {
+    let alloc = rt.alloc();
+    expect_read_itself::<Report>(
+        alloc,
+        r#"{"kind":"Up","load":1,"z":null} => same
+{"z":[1],"load":1,"a":{},"kind":"Up"} => {"kind":"Up","load":1,"a":{},"z":[1]}
+{"kind":"Moved","name":"n","x":1} => same
+{"host":"n","x":1,"kind":"Moved"} => {"kind":"Moved","name":"n","x":1}
+{"kind":"Down","x":1} => {"kind":"Down"}
+{"kind":"Slow","path":"p","z":{}} => same
+{"z":{},"url":"p","kind":"Slow"} => {"kind":"Slow","path":"p","z":{}}
+{"kind":"Slow","z":{}}
+{"kind":"Up","z":1}
+{"kind":"Moved","name":"n","x":"1"}
+{"load":1,"z":1}"#,
+    )?;
+    expect_read_itself::<Asked>(
+        alloc,
+        r#"{"Page":{"path":"p","z":"y"}} => same
+{"Page":{"z":"y","a":"b","path":"p"}} => {"Page":{"path":"p","a":"b","z":"y"}}
+"Nothing" => same
+{"Page":{"path":"p","z":1}}
+{"Page":{"z":"y"}}"#,
+    )?;
+    // Alone, a struct leaves out the tag too.
+    expect_read_itself::<Health>(
+        alloc,
+        "{\"kind\":\"Up\",\"load\":1,\"z\":2} => {\"load\":1,\"z\":2}",
+    )
+}
+
 // Each line is a text of settings, and its text at port 1.
 const AT_PORT_1: &str = r#"{"port":7,"name":"x"} => {"port":1,"name":"x"}
 {"z":-0,"name":"x","a":{"b":[1.50],"a":null},"port":7,"z":[],"note":"n"} => {"port":1,"name":"x","note":"n","a":{"a":null,"b":[1.50]},"z":[]}
@@ -166,4 +215,34 @@ fn is_written_once(alloc: Global) -> Result<bool> {
 #[test]
 fn a_member_of_a_fields_name_is_not_written(rt: HostRuntime) -> std::result::Result<(), Wrong> {
     expect_ok(is_written_once(rt.alloc()), "a member of a field's name")
+}
+
+// Returns whether a peer whose labels were given aliases and names of fields is written without these entries.
+fn has_no_alias(alloc: Global) -> Result<bool> {
+    let mut peer: Peer = from_str(alloc, "{\"host\":\"a\",\"z\":1}")?;
+    for name in ["host", "hostname", "name", "p", "port"] {
+        let name = String::from_str(alloc, name)?;
+        peer.labels.insert(name, Document { value: Value::Null })?;
+    }
+    let written = to_string(alloc, &peer)?;
+    Ok(written.as_str() == "{\"name\":\"a\",\"port\":80,\"z\":1}")
+}
+
+#[test]
+fn a_member_named_by_an_alias_is_not_written(rt: HostRuntime) -> std::result::Result<(), Wrong> {
+    expect_ok(has_no_alias(rt.alloc()), "a member of an alias's name")
+}
+
+// Returns whether a report whose data was given a member of the tag's name is written without it.
+fn has_one_tag(alloc: Global) -> Result<bool> {
+    let mut health: Health = from_str(alloc, "{\"load\":1,\"z\":2}")?;
+    let tag = String::from_str(alloc, "kind")?;
+    health.more.insert(tag, Document { value: Value::Null })?;
+    let written = to_string(alloc, &Report::Up(health))?;
+    Ok(written.as_str() == "{\"kind\":\"Up\",\"load\":1,\"z\":2}")
+}
+
+#[test]
+fn a_member_named_as_the_tag_is_not_written(rt: HostRuntime) -> std::result::Result<(), Wrong> {
+    expect_ok(has_one_tag(rt.alloc()), "a member of the tag's name")
 }

@@ -1,12 +1,12 @@
 //! Reads the members that no field takes into a map.
-ghost use Rattle.std.specs.Prelude.{◌≡◌, List, Ok, IfOk, OnErr, IsErrOf, map, string_bytes};
+ghost use Rattle.std.specs.Prelude.{◌≡◌, ◌++◌, List, Ok, IfOk, OnErr, IsErrOf, string_bytes};
 ghost use Rattle.miniserde_model.specs.declared.error.Error.TheVariants.{Memory};
 ghost use Rattle.miniserde_read.specs.types.Maps.{map_content, with_entry};
-ghost use Rattle.miniserde_record.specs.Marks.{is_among};
 ghost use Rattle.miniserde_more.specs.Rest.{rest_content, entries_so_far};
 ghost use Rattle.miniserde_more.specs.RestMeaning.{with_rest};
 
 use crate::rest::open::OpenFields;
+use crate::rest::taken::{NoNames, TakenNames, is_taken};
 use miniserde_keys::MapKey;
 use miniserde_model::error::Result;
 use miniserde_read::{FromJson, Source, read_due};
@@ -15,30 +15,15 @@ use std::alloc::Global;
 use std::collections::BTreeMap;
 use std::marker::PhantomData;
 
-/// The fields `F` of the struct `S`, and a map of the members whose names are none of its fields'. Of equal names the
-/// last member counts, and each one must mean a `V`.
+/// The fields `F` of the struct `S`, and a map of the members whose names are neither those of its fields nor among the
+/// further names `A`. Of equal names the last member counts, and each one must mean a `V`.
 #[derive(Drop)]
-pub struct WithRest<S, F, V> {
+pub struct WithRest<S, F, V, A = NoNames> {
     fields: F,
     // The members so far, if there are any: `new` has no allocator for an empty map.
     rest: Option<BTreeMap<String, V>>,
     of: PhantomData<S>,
-}
-
-// Returns whether a member's name is one of the names. It compares the lengths first, in line: most names differ in
-// them.
-#[inline(always)]
-pub(crate) fn is_one_of(names: &[&str], name: &str) -> bool
-    ensures { result ≡ is_among (map (λ n. n.now) names.now) name.now }
-{
-    for field in names {
-        if name.len() == field.len() {
-            if name == *field {
-                return true;
-            }
-        }
-    }
-    false
+    taken: PhantomData<A>,
 }
 
 // Adds an entry to a map, or replaces the value of an equal key. Makes the map if there is none. Returns `Memory` if an
@@ -79,23 +64,24 @@ fn or_empty<K: MapKey + Ord, V>(map: Option<BTreeMap<K, V>>, alloc: Global) -> B
     }
 }
 
-impl<S: Record, F: OpenFields, V: FromJson> Slots for WithRest<S, F, V> {
+impl<S: Record, F: OpenFields, V: FromJson, A: TakenNames> Slots for WithRest<S, F, V, A> {
     type Values = Parts<BTreeMap<String, V>, F::Values>;
 
-    ghost meaning = { with_rest string_bytes S.names V.means (λ m. m.entries) F.meaning };
+    ghost meaning = { with_rest string_bytes S.names A.further V.means (λ m. m.entries) F.meaning };
 
     ghost state = { λ f. (
-      rest_content string_bytes S.names V.means.content (entries_so_far (λ m. m.entries) f.rest),
+      rest_content string_bytes (A.further ++ S.names) V.means.content (entries_so_far (λ m. m.entries) f.rest),
       F.state f.fields,
     ) };
 
     ghost end_infallible = { F.end_infallible };
 
-    fn new() -> WithRest<S, F, V> {
+    fn new() -> WithRest<S, F, V, A> {
         WithRest {
             fields: F::new(),
             rest: None,
             of: PhantomData,
+            taken: PhantomData,
         }
     }
 
@@ -106,7 +92,7 @@ impl<S: Record, F: OpenFields, V: FromJson> Slots for WithRest<S, F, V> {
         name: &str,
         source: &mut Source<'a>,
     ) -> Result<()> {
-        if is_one_of(S::names(), name) {
+        if is_taken::<A>(S::names(), name) {
             return self.fields.read_member::<L>(S::names(), name, source);
         }
         F::open();
@@ -121,6 +107,7 @@ impl<S: Record, F: OpenFields, V: FromJson> Slots for WithRest<S, F, V> {
             fields,
             rest,
             of: _,
+            taken: _,
         } = self;
         Ok(Parts(or_empty(rest, alloc), fields.end(alloc)?))
     }

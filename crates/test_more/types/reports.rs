@@ -1,0 +1,33 @@
+use std::collections::BTreeMap;
+
+/// What a server reports: the data stands in one object with the tag.
+pub enum Report { // tag "kind", lossless
+    Up(Health),
+    Moved(Place),
+    Slow {
+        path: String, // alias "url"
+        more: BTreeMap<String, Document>, // rest
+    },
+    Down,
+}
+
+/// How a server is, with whatever else it says.
+pub struct Health { // lossless, stable
+    pub load: u8,
+    pub more: BTreeMap<String, Document>, // rest
+}
+
+/// Where it is now.
+pub struct Place { // lossless
+    pub name: String, // alias "host"
+    pub more: BTreeMap<String, u64>, // rest
+}
+
+/// What a server was asked, one member by the variant's name.
+pub enum Asked { // lossless, stable
+    Page {
+        path: String,
+        more: BTreeMap<String, String>, // rest
+    },
+    Nothing,
+}
