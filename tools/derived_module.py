@@ -15,7 +15,7 @@ HOMES = {
     "enum_meaning": "CasesMeaning", "tagged_meaning": "CasesMeaning", "on_unsigned": "Checks", "on_unsigned_key": "Checks",
     "checked_key": "Checks", "struct_meaning": "FieldsMeaning", "box_meaning": "Meanings", "checked_meaning": "Newtypes",
     "text_value_meaning": "Newtypes", "names_of": "Structs", "record_tree": "Structs", "neg": "Tree", "nonneg": "Tree", "truth": "Tree",
-    "str": "Tree", "rest_tree": "Rest", "untagged_tree": "Untagged", "untagged_meaning": "UntaggedMeaning", "codes": "Prelude",
+    "str": "Tree", "rest_tree": "Rest", "alias_names": "Rest", "untagged_tree": "Untagged", "untagged_meaning": "UntaggedMeaning", "codes": "Prelude",
     "string_bytes": "Prelude", "true": "Prelude", "negsuc": "Prelude", "option_map": "Prelude", "∷": "Prelude", "false": "Prelude",
 }
 # The traits whose impls say what the table has, each with the ghost members that it may have.

@@ -33,7 +33,7 @@ class Member:
 
 @dataclass
 class Struct:
-    """A struct: its members in their order, whether unknown ones are refused, and the field and the type of those that are kept."""
+    """A struct: its members in their order, whether unknown ones are refused, the field and the type of those that are kept, and the enums whose tag is not kept."""
 
     name: str
     params: tuple
@@ -41,6 +41,7 @@ class Struct:
     members: list
     closed: bool = False
     rest: tuple = ()
+    left_out: tuple = ()
     looked_into: list = None
 
 
@@ -215,31 +216,64 @@ def aliases_in(module, of, line):
     return constant(module, impl, args[0])
 
 
+def taken_in(module, shape, of, line):
+    """The names beside the fields' that a map does not keep, by the type that lists them: `None` for the aliases, and the enum of a tag."""
+    if of is None:
+        return []
+    module.of_library(of.name, line)
+    if of.name == "NoNames" and not of.args:
+        return []
+    if of.name not in ("AliasesOf", "TagOf") or not of.args or of.name == "AliasesOf" and of.args[0] != whole(shape):
+        module.refuse(line, f"a list of names that this reader does not know: `{of}`")
+    return [None if of.name == "AliasesOf" else of.args[0], *taken_in(module, shape, of.args[1] if len(of.args) > 1 else None, line)]
+
+
+def written_taken(module, shape, term, line):
+    """The names beside the fields' that a map's entries are not written under, by the clause."""
+    if term == Word("[]"):
+        return []
+    if isinstance(term, Call) and term.head == Word("++"):
+        return [*written_taken(module, shape, term.args[0], line), *written_taken(module, shape, term.args[1], line)]
+    if isinstance(term, Call) and term.head == Word("∷"):
+        return [ghost_of(module, term.args[0], "HasTag", "tag", line), *written_taken(module, shape, term.args[1], line)]
+    args = called(module, term, "alias_names", line)
+    if not args or ghost_of(module, args[0], "HasAliases", "aliases", line) != whole(shape):
+        module.refuse(line, f"names that this reader does not know: {term}")
+    return [None]
+
+
 def read_slots(module, shape, list_of, line):
-    """What the list in `means` says: the slots, the word that ends it, the aliases, and the type of the members that are kept."""
-    list_of, aliases, rest = module.expanded(list_of, line), [], None
-    if list_of.name in ("Aliased", "WithRest"):
-        module.of_library(list_of.name, line)
+    """What the list in `means` says: the slots, the word that ends it, the aliases, the type of the members that are kept, and the further names that are not."""
+    list_of, aliases, rest, taken = module.expanded(list_of, line), [], None, []
+    for name in ("Aliased", "WithRest"):
+        if list_of.name != name:
+            continue
+        module.of_library(name, line)
         owner, inner, *more = list_of.args
         if owner != whole(shape):
-            module.refuse(line, f"`{list_of.name}` of `{shape.name}` names `{owner}`")
-        aliases = aliases_in(module, owner, line) if list_of.name == "Aliased" else []
-        rest, list_of = (more[0] if more else None), inner
+            module.refuse(line, f"`{name}` of `{shape.name}` names `{owner}`")
+        if name == "Aliased":
+            aliases = aliases_in(module, owner, line)
+        else:
+            rest, taken = more[0], taken_in(module, shape, more[1] if len(more) > 1 else None, line)
+        list_of = module.expanded(inner, line)
+    if rest is not None and bool(aliases) != (None in taken):
+        module.refuse(line, f"the map of `{shape.name}` keeps members by the names of aliases")
     slots, end = slots_of(module, list_of, line)
-    return slots, end, aliases, rest
+    return slots, end, aliases, rest, taken
 
 
 def written_slots(module, shape, impl, has_rest):
-    """What `tree` says: the names and the slots that are written."""
+    """What `tree` says: the names and the slots that are written, and the type of the map's members with the further names that are left out."""
     term = term_in(module, impl, "tree")
     args = called(module, term, "rest_tree" if has_rest else "record_tree", impl.line)
-    if args is None or len(args) != (6 if has_rest else 3):
+    if args is None or len(args) != (7 if has_rest else 3):
         module.refuse(impl.line, f"`tree` of `{shape.name}` is not that of a struct{' that keeps members' * has_rest}: {term}")
     if has_rest:
-        if args[0] != Word("string_bytes") or not isinstance(args[3], Lambda) or args[3].body != Dot(Word(args[3].names[0]), "entries"):
+        if args[0] != Word("string_bytes") or not isinstance(args[4], Lambda) or args[4].body != Dot(Word(args[4].names[0]), "entries"):
             module.refuse(impl.line, f"`tree` of `{shape.name}` does not write the entries of a map")
-        value = ghost_of(module, args[2], "Serialize", "tree", impl.line)
-        args = (args[1], args[4], args[5])
+        value = ghost_of(module, args[3], "Serialize", "tree", impl.line), written_taken(module, shape, args[2], impl.line)
+        args = (args[1], args[5], args[6])
     names = names_in(module, ghost_of(module, args[0], "Record", "names", impl.line), impl.line)
     slots, _ = slots_of(module, ghost_of(module, args[1], "WrittenFields", "trees", impl.line), impl.line)
     if ghost_of(module, args[2], "Record", "values", impl.line) != whole(shape):
@@ -256,11 +290,14 @@ def struct_of(module, shape):
         module.refuse(read.line, f"`means` of `{shape.name}` is not that of a struct")
     if ghost_of(module, args[2], "Record", "values", read.line) != whole(shape):
         module.refuse(read.line, f"`means` of `{shape.name}` reads another type's values")
-    slots, end, aliases, rest = read_slots(module, shape, ghost_of(module, args[0], "Slots", "meaning", read.line), read.line)
+    slots, end, aliases, rest, taken = read_slots(module, shape, ghost_of(module, args[0], "Slots", "meaning", read.line), read.line)
     names = names_in(module, ghost_of(module, args[1], "Record", "names", read.line), read.line)
     written, written_as, value = written_slots(module, shape, write, rest is not None)
-    if value != rest:
-        module.refuse(write.line, f"`{shape.name}` keeps members of `{rest}` and writes them as `{value}`")
+    kind, left_out = value or (None, [])
+    if kind != rest:
+        module.refuse(write.line, f"`{shape.name}` keeps members of `{rest}` and writes them as `{kind}`")
+    if left_out != taken:
+        module.refuse(write.line, f"`{shape.name}` reads and writes its map without members of different names")
     fields = fields_in(module, record)
     kept = (fields.pop(0), rest) if rest is not None else ()
     check_counts(module, shape, names, slots, written, written_as, fields)
@@ -270,7 +307,7 @@ def struct_of(module, shape):
     for alias, of in aliases:
         if of not in names or alias in names:
             module.refuse(read.line, f"the alias `{alias}` of `{shape.name}` is for `{of}`, which must be a name of a field, and the alias none")
-    found = Struct(shape.name, shape.params, shape.docs, members, end == "Closed", kept)
+    found = Struct(shape.name, shape.params, shape.docs, members, end == "Closed", kept, tuple(it for it in taken if it is not None))
     found.looked_into = looked_into(module, shape, found)
     return found
 

@@ -3,7 +3,7 @@ from dataclasses import dataclass
 
 from derived_text import Cursor, Type, type_at
 
-ENDS = set(") ] | ; , } ∷ × ≡ ↦".split()) | {""}
+ENDS = set(") ] | ; , } ∷ + × ≡ ↦".split()) | {""}
 
 
 @dataclass(frozen=True)
@@ -84,10 +84,13 @@ def term_of(tokens, module, line=0):
 
 
 def term_at(cursor):
-    """The term that is next, a list `a ∷ b ∷ []` as a call of `∷`."""
+    """The term that is next, a list `a ∷ b ∷ []` as a call of `∷`, and lists one behind another as a call of `++`."""
     first = applied_at(cursor)
     if cursor.took("∷"):
         return Call(Word("∷"), (first, term_at(cursor)))
+    if cursor.took("+"):
+        cursor.take("+")
+        return Call(Word("++"), (first, term_at(cursor)))
     return first
 
 

@@ -57,6 +57,11 @@ class Words:
         """A type of the module with its names resolved."""
         return self.world.resolved(of, self.path, self.params)
 
+    def tag_of(self, of):
+        """The name of the member that has the tag of an enum."""
+        named_type = self.resolved(of)
+        return self.world.model(named_type.module, named_type.name).tag
+
     def of_named(self, of, word):
         """What a type of a derived module says: `missing` or `null`, as `word`."""
         if not self.world.is_derived(of.module):
@@ -113,6 +118,7 @@ def struct_lines(words, it):
     others = "are invalid" if it.closed else "are skipped"
     if it.rest:
         others = f"are kept in the field {code(it.rest[0])}, each a {code(it.rest[1])}, and are written behind the others, in byte order of their names"
+        others += "".join(f"; one named {named(words.tag_of(each))}, as the tag of {code(each)}, is skipped" for each in it.left_out)
     lines = [f"An object. Members of other names {others}. Each duplicate of a member must be valid. The members are written in the order of the rows."]
     if it.looked_into is not None:
         into = ", ".join(map(code, it.looked_into))

@@ -168,6 +168,8 @@ class Schemas:
     def struct(self, it, resolved, tag=None):
         """The schema of a struct; `tag` has the name of a tag beside its members, and its text."""
         properties = {tag[0]: {"const": tag[1]}} if tag else {}
+        for enum in map(resolved, it.left_out):
+            properties.setdefault(self.world.model(enum.module, enum.name).tag, True)
         required, besides = [tag[0]] if tag else [], []
         for member in it.members:
             of, names = resolved(member.slot.of), [member.name, *member.aliases]

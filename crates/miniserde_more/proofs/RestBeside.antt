@@ -1,6 +1,7 @@
 -- Members of the names, and members of other names behind them: each part is found again (`other_part`, `own_part`), and
 -- fields of some of the names look only at the first (`reads_open`). The entries that are kept have other names (`none_kept`).
-use Rattle.std.proofs.Common.{◌≡◌, suc, ◌&&◌, true, false, cond, ◌||◌, List, [], ◌∷◌, ◌++◌, Option, Some, None, refl, sym, ap, ◌∙◌, true≢false}
+use Rattle.std.proofs.Common.{◌≡◌, suc, ◌&&◌, true, false, cond, ◌||◌, List, [], ◌∷◌, ◌++◌, Option, Some, None}
+use Rattle.std.proofs.Common.{refl, sym, ap, ◌∙◌, true≢false}
 use Rattle.std.specs.Prelude.{◌↔◌, ⊤, bytes_eq, option_and_then}
 use Rattle.std.specs.Map.{keys_of}
 use Rattle.std.specs.List.{AllByRecursion}
@@ -168,7 +169,8 @@ count_then q (member k t fs) rs f r =
     [ true ↦ λ f. absurd (cc) | false ↦ λ f. count_then q fs rs f r ] f
 
 -- no written member has one of the further names, unless it is a field's
-pub further_named : {K V : Type 0} (text : K → Name) (f : V → Tree) (names further : List Name) (ts : List (Option Tree)) (es : List (K × V))
+pub further_named : {K V : Type 0} (text : K → Name) (f : V → Tree) (names further : List Name) (ts : List (Option Tree))
+    (es : List (K × V))
     (q : Name) → (is_among further q && is_new q names) ≡ true
     → count_named q (members_then (with_names names ts) (members_of text f (kept text (further ++ names) es))) ≡ 0
 further_named text f names further ts es q h =

@@ -25,7 +25,8 @@ module _ {W : Type 0} (n : FieldsMeaning W) (open_n : IsOpen n) (fs ns : List Na
 
   pub due_rest : {V : Type 0} (m : Meaning V) (s : MapContent m.Content × n.State) (c : m.Content) (after : MapContent m.Content)
       {b d : List ℕ} → after ≡ with_entry (λ k. k) s.0 k c → ReadsDue m.from_tree b d c
-      → ReadsDue (λ t. option_and_then (λ x. option_map {U = MapContent m.Content × n.State} (λ r. (r, x)) (rest_member (fs ++ ns) m.from_tree s.0 k t))
+      → ReadsDue (λ t. option_and_then
+      (λ x. option_map {U = MapContent m.Content × n.State} (λ r. (r, x)) (rest_member (fs ++ ns) m.from_tree s.0 k t))
       (n.next_state ns s.1 k t)) b d (after, s.1)
   due_rest m s c after e p = record {
     one = p.one;

@@ -40,7 +40,8 @@ module _ {K V M W : Type 0} (text : K → Name) (ns more : List Name) (m : Meani
       let taken = more ++ ns in
       let rs = of_entries (kept text taken (entries v.0)) in
       let none : NoneOwn taken rs = none_kept taken text f (entries v.0) in
-      let apart : others taken (members_then fs rs) ≡ rs = other_part taken fs rs (all_of_names taken ns (trees v.1) (named more ns)) none in
+      let apart : others taken (members_then fs rs) ≡ rs =
+      other_part taken fs rs (all_of_names taken ns (trees v.1) (named more ns)) none in
       let a = back (only v.0) (only_valid v.0 r) in
       let same : of_entries (entries (only v.0)) ≡ rs = ap of_entries (only_kept v.0) in
       let met : Means rs (entries a.0.0) = subst (λ ms. Means ms (entries a.0.0)) same a.0.2 in (

@@ -38,14 +38,17 @@ module _ (ns : List Name) where
   pub others_norm : (ms : Members) → others ns (norm_members ms) ≡ norm_members (others ns ms)
   others_norm ms =
       norm_only norm_neg (others ns ms) (others ns (norm_members ms)) (rise_others (norm_members ms) (norm_rises norm_neg ms)) (λ q.
-      elim (is_among ns q) as (λ b. is_among ns q ≡ b → last_of q (others ns (norm_members ms)) ≡ option_map norm (last_of q (others ns ms))) [
+      elim (is_among ns q) as (λ b. is_among ns q ≡ b
+      → last_of q (others ns (norm_members ms)) ≡ option_map norm (last_of q (others ns ms))) [
         | true ↦ λ b. last_gone ns q b (norm_members ms) ∙ ap (option_map norm) (sym (last_gone ns q b ms))
-        | false ↦ λ b. last_other ns q b (norm_members ms) ∙ norm_keeps_last norm_neg q ms ∙ ap (option_map norm) (sym (last_other ns q b ms))
+        | false ↦ λ b. last_other ns q b (norm_members ms) ∙ norm_keeps_last norm_neg q ms
+            ∙ ap (option_map norm) (sym (last_other ns q b ms))
       ] refl)
 
   pub rest-stable : (names : List Name) {C W : Type 0} (of : Tree → Option C) (n : FieldsMeaning W) → AreStable n.from_members
       → IsStable (map_of Some (λ k. k) of) → (ms : Members) (d : MapContent C × n.Content)
-      → option_and_then {U = MapContent C × n.Content} (λ r. option_map (λ d. (r, d)) (n.from_members names n.empty ms)) (map_of Some (λ k. k) of (members (others ns ms))) ≡ Some d
+      → option_and_then {U = MapContent C × n.Content} (λ r. option_map (λ d. (r, d)) (n.from_members names n.empty ms))
+      (map_of Some (λ k. k) of (members (others ns ms))) ≡ Some d
       → option_and_then {U = MapContent C × n.Content} (λ r. option_map (λ d. (r, d)) (n.from_members names n.empty (norm_members ms)))
       (map_of Some (λ k. k) of (members (others ns (norm_members ms)))) ≡ Some d
   rest-stable names of n fields map ms d h =

@@ -106,7 +106,8 @@ normal_there R f normal t (Some x) h = ap Some (normal h.0 x h.2) ∙ ap (option
 -- the written object has at a name that is not taken what the object had that was read
 pub stays : {K V C : Type 0} (text : K → Name) (ns more : List Name) (f : V → Tree) (of : Tree → Option C) (R : Tree → V → Type 0)
     (cmp : K → K → Ordering) → ((a b : K) → is_eq (cmp a b) ≡ bytes_eq (text a) (text b))
-    → ((t : Tree) (x : V) → R t x → f x ≡ norm t) → (q : Name) → is_among (more ++ ns) q ≡ false → (ts : List (Option Tree)) (es : List (K × V))
+    → ((t : Tree) (x : V) → R t x → f x ≡ norm t) → (q : Name) → is_among (more ++ ns) q ≡ false
+    → (ts : List (Option Tree)) (es : List (K × V))
     → IsStrictlySortedBy cmp (keys_of es) → (ms : Members)
     → MapReads (name_keys text) of R (members (others (more ++ ns) ms)) (kept text (more ++ ns) es)
     → last_of q (members_then (with_names ns ts) (members_of text f (kept text (more ++ ns) es))) ≡ option_map norm (last_of q ms)
@@ -114,7 +115,8 @@ stays {K} text ns more f of R cmp agrees normal q other ts es sorted ms reads =
     let there : K → Bool = λ k. bytes_eq (text k) q in
     let met : IsValueOf R (last_of q (others (more ++ ns) ms)) (lookup there (kept text (more ++ ns) es)) =
     last_name text R of (members (others (more ++ ns) ms)) (kept text (more ++ ns) es) reads there q (λ k. refl) in
-    last_behind (more ++ ns) q other (with_names ns ts) (members_of text f (kept text (more ++ ns) es)) (all_of_names (more ++ ns) ns ts (named more ns))
+    last_behind (more ++ ns) q other (with_names ns ts) (members_of text f (kept text (more ++ ns) es))
+    (all_of_names (more ++ ns) ns ts (named more ns))
     ∙ last_written text f q cmp agrees (kept text (more ++ ns) es) (kept_sorted (more ++ ns) text cmp es sorted)
     ∙ normal_there R f normal (last_of q ms) (lookup there (kept text (more ++ ns) es))
     (subst (λ o. IsValueOf R o (lookup there (kept text (more ++ ns) es))) (last_other (more ++ ns) q other ms) met)

@@ -22,9 +22,11 @@ returns g c = λ t v w r valid same q other.
     let m = g.V.FromJson.means in
     let n = with_rest string_bytes s.names more m (λ (x : BTreeMap (String Global) g.row.V.Denot). x.entries) g.F.RoundTripFields.meaning in
     let ts = g.F.RoundTripFields.trees (s.values w).1 in
-    let behind : _ → _ = λ x. last_of q (members_then (with_names s.names ts) (members_of string_bytes f (kept string_bytes (more ++ s.names) x.entries))) in
+    let behind : _ → _ = λ x. last_of q
+    (members_then (with_names s.names ts) (members_of string_bytes f (kept string_bytes (more ++ s.names) x.entries))) in
     on_object ((with_aliases ps n).reads [] s.names) s.values (λ t. behind (s.values w).0 ≡ option_map norm (last_in q t)) v
     (λ ms e. ap behind same
-    ∙ stays string_bytes s.names more f m.from_tree m.reads _ (λ a b. names_agree (string_bytes a) (string_bytes b)) c.requires.normal q other ts
+    ∙ stays string_bytes s.names more f m.from_tree m.reads _ (λ a b. names_agree (string_bytes a) (string_bytes b))
+    c.requires.normal q other ts
     (s.values v).0.entries valid.0 (with_field_names ps ms) e.1
     ∙ ap (option_map norm) (last_renamed ps g.A.TakenNames.further s.names q c.requires.of_names other ms)) t r

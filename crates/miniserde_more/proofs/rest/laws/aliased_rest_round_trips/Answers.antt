@@ -12,7 +12,8 @@ returns g c = λ v r.
     let ps = g.S.HasAliases.aliases in
     let more = g.A.TakenNames.further in
     let f = g.F.RoundTripFields in
-    let n = with_rest string_bytes s.names (alias_names ps ++ more) g.V.FromJson.means (λ (x : BTreeMap (String Global) g.row.V.Denot). x.entries) f.meaning in
+    let n = with_rest string_bytes s.names (alias_names ps ++ more) g.V.FromJson.means
+    (λ (x : BTreeMap (String Global) g.row.V.Denot). x.entries) f.meaning in
     let same = sym (written_alone string_bytes g.V.Serialize.tree ps s.names (f.trees (s.values v).1) more (s.values v).0.entries
     g.met.S.HasAliases.apart) in
     let a = c.rest_round_trips.ensures v r in (

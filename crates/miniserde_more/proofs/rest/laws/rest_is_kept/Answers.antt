@@ -16,8 +16,10 @@ returns g c = λ t v w r valid same q other.
     let f = g.V.Serialize.tree in
     let m = g.V.FromJson.means in
     let ts = g.F.RoundTripFields.trees (s.values w).1 in
-    let behind : _ → _ = λ x. last_of q (members_then (with_names s.names ts) (members_of string_bytes f (kept string_bytes (more ++ s.names) x.entries))) in
-    on_object ((with_rest string_bytes s.names more m (λ (x : BTreeMap (String Global) g.row.V.Denot). x.entries) g.F.RoundTripFields.meaning).reads [] s.names) s.values (λ t. behind (s.values w).0 ≡ option_map norm (last_in q t)) v
+    let behind : _ → _ = λ x. last_of q
+    (members_then (with_names s.names ts) (members_of string_bytes f (kept string_bytes (more ++ s.names) x.entries))) in
+    on_object ((with_rest string_bytes s.names more m (λ (x : BTreeMap (String Global) g.row.V.Denot). x.entries)
+    g.F.RoundTripFields.meaning).reads [] s.names) s.values (λ t. behind (s.values w).0 ≡ option_map norm (last_in q t)) v
     (λ ms e. ap behind same
     ∙ stays string_bytes s.names more f m.from_tree m.reads _ (λ a b. names_agree (string_bytes a) (string_bytes b)) c.requires q other ts
     (s.values v).0.entries valid.0 ms e.1) t r

@@ -12,8 +12,10 @@ abbrev pub invariant-loop-name : goal.invariant-loop-name
 invariant-loop-name g l = record {
   is : l.w.text ≡ l.fn.w.text ++ members_text l.fn.w.first
       (written string_bytes g.V.Serialize.tree (g.A.TakenNames.further ++ map (λ n. n.now) l.fn.names) (map deref_pair l.yielded));
-  all_in_range : MembersInRange (written string_bytes g.V.Serialize.tree (g.A.TakenNames.further ++ map (λ n. n.now) l.fn.names) (map deref_pair l.yielded));
-  first : l.w.first ≡ (has_no_members (written string_bytes g.V.Serialize.tree (g.A.TakenNames.further ++ map (λ n. n.now) l.fn.names) (map deref_pair l.yielded))
+  all_in_range : MembersInRange
+      (written string_bytes g.V.Serialize.tree (g.A.TakenNames.further ++ map (λ n. n.now) l.fn.names) (map deref_pair l.yielded));
+  first : l.w.first ≡ (has_no_members
+      (written string_bytes g.V.Serialize.tree (g.A.TakenNames.further ++ map (λ n. n.now) l.fn.names) (map deref_pair l.yielded))
       && l.fn.w.first);
   normal : KeepsTreesNormal l.fn.w
       (written string_bytes g.V.Serialize.tree (g.A.TakenNames.further ++ map (λ n. n.now) l.fn.names) (map deref_pair l.yielded)) l.w;
