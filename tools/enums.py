@@ -1,7 +1,6 @@
 """The impls that `./derive` writes for an enum whose variants may have data."""
-from impls import WRITTEN, beside, head_of, impl_of, laws_text, of, quoted, typed, wrapped
+from impls import WRITTEN, beside, head_of, impl_of, laws_text, lent_of, of, quoted, typed, wrapped
 from plain import const_of
-from rests import written_fields
 
 
 def cases_of(it, parts):
@@ -213,8 +212,7 @@ def written_of(it, part, writer):
         return f'write_tagged_fields({writer}, {tag}"{part.written}", {content_const(it)}, &Parts({value}, ()))'
     if part.fields or tag and not part.of:
         const = const_of(it.name + part.name) if part.fields else "&[]"
-        call, before = "write_tagged_fields" if tag else "write_fields", f'{writer}, {tag}"{part.written}", '
-        return f"{{ {written_fields(it, part, call, before, const)} }}"
+        return f'{{ write{"_tagged" * bool(tag)}_fields({writer}, {tag}"{part.written}", {const}, &{lent_of(part.fields)}) }}'
     if part.values:
         value = "a" if len(part.values) == 1 else f"&({', '.join(names_in(part))})"
         return f'write_{"tagged" if tag else "data"}({writer}, {tag}"{part.written}", {value})'

@@ -29,6 +29,9 @@ def check_rests(found):
         if not rests:
             continue
         line = rests[0].line
+        if it.variant:
+            yield f"line {line}: the named fields of a variant have no `rest`: write a struct of them, and a variant of the struct"
+            continue
         if len(rests) > 1:
             yield f"line {rests[1].line}: one field keeps the other members: leave out the second `rest`"
         if not re.fullmatch(r"BTreeMap<\s*String\s*,.+>", rests[0].of):
@@ -59,16 +62,6 @@ def listed(aliased, enums):
 def further_of(it, whole):
     """The type that lists these names of a struct."""
     return listed(whole if has_aliases(it) else "", it.beside)
-
-
-def written_fields(it, part, call, before, const):
-    """The call that writes a variant with named fields; `before` are the arguments in front of the fields' names."""
-    rest = next((field for field in part.fields if field.rest), None)
-    values = f"&{lent_of([field for field in part.fields if not field.rest])}"
-    if not rest:
-        return f"{call}({before}{const}, {values})"
-    further = listed(part.of if any(field.aliases for field in part.fields) else "", (it.name,) if it.tag is not None else ())
-    return f"{call}_and_rest::<{further}, _, _>({before}{const}, {values}, {rest.name})"
 
 
 def names_of(it, whole):

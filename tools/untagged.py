@@ -1,8 +1,7 @@
 """The impls that `./derive` writes for an enum whose variants are told apart by the kind of the JSON value."""
 from enums import arms, bijective_clause, built_of, case_clause, made_clause, names_in, ranged_of
-from impls import WRITTEN, beside, head_of, impl_of, laws_text, of, quoted, typed, wrapped
+from impls import WRITTEN, beside, head_of, impl_of, laws_text, lent_of, of, quoted, typed, wrapped
 from plain import const_of
-from rests import written_fields
 
 
 def cases_of(parts):
@@ -67,7 +66,7 @@ def reading_text(it):
 def written_of(it, part, writer):
     """The call that writes a variant: its data, or `null`."""
     if part.fields:
-        return f"{{ {written_fields(it, part, 'write_members', f'{writer}, ', const_of(it.name + part.name))} }}"
+        return f"{{ write_members({writer}, {const_of(it.name + part.name)}, &{lent_of(part.fields)}) }}"
     if not part.values:
         return f"{writer}.fragment(Fragment::Null)"
     value = "a" if len(part.values) == 1 else f"({', '.join(names_in(part))})"

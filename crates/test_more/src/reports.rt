@@ -13,191 +13,27 @@ use miniserde::derived::{
     Inside, InsideCases, Lossless, NeverNull, NoCase, NoFields, NoSlot, OneOf, Parts, Ranged,
     Record, Result, RoundTrip, Serialize, Slot, Slots, Source, Stable, UnitCase, Writer,
     WrittenCases, WrittenFields, enum_lossless, enum_round_trips, enum_stable, read_enum,
-    read_record, read_tagged, tag_fits, tagged_lossless, tagged_round_trips, write_tagged,
-    write_tagged_fields,
+    read_record, read_tagged, tag_fits, tagged_lossless, tagged_round_trips, write_data,
+    write_tagged, write_tagged_fields,
 };
 use miniserde::json::Document;
 use miniserde_more::rest::{
     AliasesOf, NoNames, OpenFields, TagOf, WithRest, aliased_rest_round_trips, rest_lossless,
-    rest_named, rest_round_trips, rest_stable, write_fields_and_rest, write_inside_and_rest,
-    write_members_and_rest, write_tagged_fields_and_rest,
+    rest_named, rest_round_trips, rest_stable, write_inside_and_rest, write_members_and_rest,
 };
 use std::collections::BTreeMap;
-
-/// The fields of `Report::Slow`.
-#[derive(Drop)]
-pub struct ReportSlow {
-    pub path: String,
-    pub more: BTreeMap<String, Document>,
-}
-
-// Its fields without the rest, and their names.
-pub type ReportSlowFields = Slot<String, NoSlot>;
-
-const REPORT_SLOW_NAMES: &[&str] = &["path"];
-
-impl Record for ReportSlow {
-    ghost use Rattle.test_more.specs.declared.reports.TheConstants.{REPORT_SLOW_NAMES};
-
-    type Values = Parts<BTreeMap<String, Document>, <ReportSlowFields as Slots>::Values>;
-
-    ghost names = { names_of REPORT_SLOW_NAMES };
-
-    ghost values = { λ v. (v.more, (v.path, tt)) };
-
-    ghost made = { λ x. record { path = x.1.0; more = x.0 } };
-
-    ghost bijective = { (λ v. refl, λ x. refl) };
-
-    ghost distinct_names = { refl };
-
-    fn names() -> &'static [&'static str] {
-        REPORT_SLOW_NAMES
-    }
-
-    fn build(parts: Self::Values) -> ReportSlow {
-        let Parts(more, parts) = parts;
-        let Parts(path, ()) = parts;
-        ReportSlow { path, more }
-    }
-}
-
-const REPORT_SLOW_ALIASES: &[(&str, &str)] = &[("url", "path")];
-
-impl HasAliases for ReportSlow {
-    ghost use Rattle.test_more.specs.declared.reports.TheConstants.{REPORT_SLOW_ALIASES};
-
-    ghost aliases = { aliases_of REPORT_SLOW_ALIASES };
-
-    ghost apart = { refl };
-
-    fn aliases() -> &'static [(&'static str, &'static str)] {
-        REPORT_SLOW_ALIASES
-    }
-}
-
-impl FromJson for ReportSlow {
-    ghost means = { struct_meaning ⟦<Aliased<ReportSlow, WithRest<ReportSlow, ReportSlowFields, Document, AliasesOf<ReportSlow, TagOf<Report>>>> as Slots>⟧.meaning ⟦<ReportSlow as Record>⟧.names ⟦<ReportSlow as Record>⟧.values };
-
-    fn missing() -> Option<ReportSlow> {
-        None
-    }
-
-    fn read<'a>(token: Event<'a>, source: &mut Source<'a>) -> Result<ReportSlow> {
-        read_record::<
-            ReportSlow,
-            Aliased<
-                ReportSlow,
-                WithRest<
-                    ReportSlow,
-                    ReportSlowFields,
-                    Document,
-                    AliasesOf<ReportSlow, TagOf<Report>>,
-                >,
-            >,
-        >(token, source)
-    }
-}
-
-impl Serialize for ReportSlow {
-    ghost tree = { rest_tree string_bytes ⟦<ReportSlow as Record>⟧.names (alias_names ⟦<ReportSlow as HasAliases>⟧.aliases ++ ⟦<Report as HasTag>⟧.tag ∷ []) ⟦<Document as Serialize>⟧.tree (λ
-        m. m.entries) ⟦<ReportSlowFields as WrittenFields>⟧.trees ⟦<ReportSlow as Record>⟧.values };
-
-    fn begin(&self, w: &mut Writer) -> Result<()> {
-        write_members_and_rest::<AliasesOf<ReportSlow, TagOf<Report>>, _, _>(
-            w,
-            REPORT_SLOW_NAMES,
-            &Parts(&self.path, ()),
-            &self.more,
-        )
-    }
-}
-
-impl Ranged for ReportSlow {
-    ghost valid = { λ v. ⟦<BTreeMap<String, Document> as Ranged>⟧.valid (⟦<ReportSlow as Record>⟧.values v).0 × ⟦<ReportSlowFields as WrittenFields>⟧.valid (⟦<ReportSlow as Record>⟧.values v).1 };
-
-    fn ranged(&self) {
-        self.path.ranged();
-        self.more.ranged();
-    }
-}
-
-impl RoundTrip for ReportSlow {
-    fn round_trips() {
-        <ReportSlowFields as OpenFields>::open();
-        aliased_rest_round_trips::<ReportSlow, ReportSlowFields, Document, TagOf<Report>>()
-    }
-}
-
-impl Lossless for ReportSlow {
-    fn lossless() {
-        rest_lossless::<
-            ReportSlow,
-            ReportSlowFields,
-            Document,
-            AliasesOf<ReportSlow, TagOf<Report>>,
-        >()
-    }
-}
-
-impl NeverNull for ReportSlow {
-    fn never_null() {}
-}
-
-impl Inside for ReportSlow {
-    ghost fields = { ⟦<ReportSlow as Record>⟧.names };
-
-    ghost left_out = { is_among (alias_names ⟦<ReportSlow as HasAliases>⟧.aliases ++ ⟦<Report as HasTag>⟧.tag ∷ []) };
-
-    fn read_inside<'a, E: HasTag>(token: Event<'a>, source: &mut Source<'a>) -> Result<ReportSlow> {
-        read_record::<
-            ReportSlow,
-            BesideTag<
-                E,
-                Aliased<
-                    ReportSlow,
-                    WithRest<
-                        ReportSlow,
-                        ReportSlowFields,
-                        Document,
-                        AliasesOf<ReportSlow, TagOf<Report>>,
-                    >,
-                >,
-            >,
-        >(token, source)
-    }
-
-    fn write_inside(&self, w: &mut Writer) -> Result<()> {
-        write_inside_and_rest::<AliasesOf<ReportSlow, TagOf<Report>>, _, _>(
-            w,
-            REPORT_SLOW_NAMES,
-            &Parts(&self.path, ()),
-            &self.more,
-        )
-    }
-
-    fn is_object() {
-        rest_named::<ReportSlow, ReportSlowFields, Document, AliasesOf<ReportSlow, TagOf<Report>>>()
-    }
-}
 
 /// What a server reports: the data stands in one object with the tag.
 #[derive(Drop)]
 pub enum Report {
     Up(Health),
     Moved(Place),
-    Slow {
-        path: String,
-        more: BTreeMap<String, Document>,
-    },
+    Slow(Slow),
     Down,
 }
 
 // Its variants, and their names.
-type ReportCases = DataCase<
-    Health,
-    DataCase<Place, DataCase<ReportSlow, DataCase<NoFields, NoCase>>>,
->;
+type ReportCases = DataCase<Health, DataCase<Place, DataCase<Slow, DataCase<NoFields, NoCase>>>>;
 
 const REPORT_NAMES: &[&str] = &["Up", "Moved", "Slow", "Down"];
 
@@ -213,16 +49,16 @@ impl DataEnum for Report {
       | Up x0 ↦ first_case x0
       | Moved x0 ↦ later_case (first_case x0)
       | Slow x0
-          x1 ↦ later_case (later_case (first_case (record { path = x0; more = x1 })))
-      | Down ↦
-          later_case (later_case (later_case (first_case (record {}))))
+          ↦ later_case (later_case (first_case x0))
+      | Down ↦ later_case (later_case (later_case
+          (first_case (record {}))))
     ] };
 
-    ghost made = { each_case _ (λ x. Up x) (each_case _ (λ x. Moved x) (each_case _ (λ x. Slow
-        x.path x.more) (each_case _ (λ x. Down) (any_of_never _)))) };
+    ghost made = { each_case _ (λ x. Up x) (each_case _ (λ x. Moved x) (each_case _ (λ x. Slow x)
+        (each_case _ (λ x. Down) (any_of_never _)))) };
 
     ghost bijective = { (
-      elim [ Up x0 ↦ refl | Moved x0 ↦ refl | Slow x0 x1 ↦ refl | Down ↦ refl ],
+      elim [ Up x0 ↦ refl | Moved x0 ↦ refl | Slow x0 ↦ refl | Down ↦ refl ],
       each_case _ (λ x. refl) (each_case _ (λ x. refl) (each_case _ (λ x. refl) (each_case _ (λ x.
           refl) (any_of_never _)))),
     ) };
@@ -239,7 +75,7 @@ impl DataEnum for Report {
             OneOf::Later(value) => match value {
                 OneOf::First(a) => Report::Moved(a),
                 OneOf::Later(value) => match value {
-                    OneOf::First(ReportSlow { path, more }) => Report::Slow { path, more },
+                    OneOf::First(a) => Report::Slow(a),
                     OneOf::Later(value) => match value {
                         OneOf::First(NoFields {}) => Report::Down,
                         OneOf::Later(value) => match value {},
@@ -282,16 +118,7 @@ impl Serialize for Report {
         match self {
             Report::Up(a) => write_tagged(w, "kind", "Up", a),
             Report::Moved(a) => write_tagged(w, "kind", "Moved", a),
-            Report::Slow { path, more } => {
-                write_tagged_fields_and_rest::<AliasesOf<ReportSlow, TagOf<Report>>, _, _>(
-                    w,
-                    "kind",
-                    "Slow",
-                    REPORT_SLOW_NAMES,
-                    &Parts(path, ()),
-                    more,
-                )
-            },
+            Report::Slow(a) => write_tagged(w, "kind", "Slow", a),
             Report::Down => { write_tagged_fields(w, "kind", "Down", &[], &()) },
         }
     }
@@ -304,10 +131,7 @@ impl Ranged for Report {
         match self {
             Report::Up(a) => a.ranged(),
             Report::Moved(a) => a.ranged(),
-            Report::Slow { path, more } => {
-                path.ranged();
-                more.ranged();
-            },
+            Report::Slow(a) => a.ranged(),
             Report::Down => {},
         }
     }
@@ -594,24 +418,24 @@ impl Inside for Place {
     }
 }
 
-/// The fields of `Asked::Page`.
+/// What is slow.
 #[derive(Drop)]
-pub struct AskedPage {
+pub struct Slow {
     pub path: String,
-    pub more: BTreeMap<String, String>,
+    pub more: BTreeMap<String, Document>,
 }
 
 // Its fields without the rest, and their names.
-pub type AskedPageFields = Slot<String, NoSlot>;
+pub type SlowFields = Slot<String, NoSlot>;
 
-const ASKED_PAGE_NAMES: &[&str] = &["path"];
+const SLOW_NAMES: &[&str] = &["path"];
 
-impl Record for AskedPage {
-    ghost use Rattle.test_more.specs.declared.reports.TheConstants.{ASKED_PAGE_NAMES};
+impl Record for Slow {
+    ghost use Rattle.test_more.specs.declared.reports.TheConstants.{SLOW_NAMES};
 
-    type Values = Parts<BTreeMap<String, String>, <AskedPageFields as Slots>::Values>;
+    type Values = Parts<BTreeMap<String, Document>, <SlowFields as Slots>::Values>;
 
-    ghost names = { names_of ASKED_PAGE_NAMES };
+    ghost names = { names_of SLOW_NAMES };
 
     ghost values = { λ v. (v.more, (v.path, tt)) };
 
@@ -622,44 +446,62 @@ impl Record for AskedPage {
     ghost distinct_names = { refl };
 
     fn names() -> &'static [&'static str] {
-        ASKED_PAGE_NAMES
+        SLOW_NAMES
     }
 
-    fn build(parts: Self::Values) -> AskedPage {
+    fn build(parts: Self::Values) -> Slow {
         let Parts(more, parts) = parts;
         let Parts(path, ()) = parts;
-        AskedPage { path, more }
+        Slow { path, more }
     }
 }
 
-impl FromJson for AskedPage {
-    ghost means = { struct_meaning ⟦<WithRest<AskedPage, AskedPageFields, String> as Slots>⟧.meaning
-        ⟦<AskedPage as Record>⟧.names ⟦<AskedPage as Record>⟧.values };
+const SLOW_ALIASES: &[(&str, &str)] = &[("url", "path")];
 
-    fn missing() -> Option<AskedPage> {
+impl HasAliases for Slow {
+    ghost use Rattle.test_more.specs.declared.reports.TheConstants.{SLOW_ALIASES};
+
+    ghost aliases = { aliases_of SLOW_ALIASES };
+
+    ghost apart = { refl };
+
+    fn aliases() -> &'static [(&'static str, &'static str)] {
+        SLOW_ALIASES
+    }
+}
+
+impl FromJson for Slow {
+    ghost means = { struct_meaning ⟦<Aliased<Slow, WithRest<Slow, SlowFields, Document, AliasesOf<Slow, TagOf<Report>>>> as Slots>⟧.meaning ⟦<Slow as Record>⟧.names ⟦<Slow as Record>⟧.values };
+
+    fn missing() -> Option<Slow> {
         None
     }
 
-    fn read<'a>(token: Event<'a>, source: &mut Source<'a>) -> Result<AskedPage> {
-        read_record::<AskedPage, WithRest<AskedPage, AskedPageFields, String>>(token, source)
+    fn read<'a>(token: Event<'a>, source: &mut Source<'a>) -> Result<Slow> {
+        read_record::<
+            Slow,
+            Aliased<Slow, WithRest<Slow, SlowFields, Document, AliasesOf<Slow, TagOf<Report>>>>,
+        >(token, source)
     }
 }
 
-impl Serialize for AskedPage {
-    ghost tree = { rest_tree string_bytes ⟦<AskedPage as Record>⟧.names [] ⟦<String as Serialize>⟧.tree (λ m. m.entries) ⟦<AskedPageFields as WrittenFields>⟧.trees ⟦<AskedPage as Record>⟧.values };
+impl Serialize for Slow {
+    ghost tree = { rest_tree string_bytes ⟦<Slow as Record>⟧.names (alias_names ⟦<Slow as HasAliases>⟧.aliases ++ ⟦<Report as HasTag>⟧.tag ∷ []) ⟦<Document as Serialize>⟧.tree (λ m.
+        m.entries) ⟦<SlowFields as WrittenFields>⟧.trees ⟦<Slow as Record>⟧.values };
 
     fn begin(&self, w: &mut Writer) -> Result<()> {
-        write_members_and_rest::<NoNames, _, _>(
+        write_members_and_rest::<AliasesOf<Slow, TagOf<Report>>, _, _>(
             w,
-            ASKED_PAGE_NAMES,
+            SLOW_NAMES,
             &Parts(&self.path, ()),
             &self.more,
         )
     }
 }
 
-impl Ranged for AskedPage {
-    ghost valid = { λ v. ⟦<BTreeMap<String, String> as Ranged>⟧.valid (⟦<AskedPage as Record>⟧.values v).0 × ⟦<AskedPageFields as WrittenFields>⟧.valid (⟦<AskedPage as Record>⟧.values v).1 };
+impl Ranged for Slow {
+    ghost valid = { λ v. ⟦<BTreeMap<String, Document> as Ranged>⟧.valid (⟦<Slow as Record>⟧.values
+        v).0 × ⟦<SlowFields as WrittenFields>⟧.valid (⟦<Slow as Record>⟧.values v).1 };
 
     fn ranged(&self) {
         self.path.ranged();
@@ -667,41 +509,153 @@ impl Ranged for AskedPage {
     }
 }
 
-impl RoundTrip for AskedPage {
+impl RoundTrip for Slow {
     fn round_trips() {
-        <AskedPageFields as OpenFields>::open();
-        rest_round_trips::<AskedPage, AskedPageFields, String, NoNames>()
+        <SlowFields as OpenFields>::open();
+        aliased_rest_round_trips::<Slow, SlowFields, Document, TagOf<Report>>()
     }
 }
 
-impl Lossless for AskedPage {
+impl Lossless for Slow {
     fn lossless() {
-        rest_lossless::<AskedPage, AskedPageFields, String, NoNames>()
+        rest_lossless::<Slow, SlowFields, Document, AliasesOf<Slow, TagOf<Report>>>()
     }
 }
 
-impl NeverNull for AskedPage {
+impl NeverNull for Slow {
     fn never_null() {}
 }
 
-impl Stable for AskedPage {
+impl Inside for Slow {
+    ghost fields = { ⟦<Slow as Record>⟧.names };
+
+    ghost left_out = { is_among (alias_names ⟦<Slow as HasAliases>⟧.aliases ++ ⟦<Report as HasTag>⟧.tag ∷ []) };
+
+    fn read_inside<'a, E: HasTag>(token: Event<'a>, source: &mut Source<'a>) -> Result<Slow> {
+        read_record::<
+            Slow,
+            BesideTag<
+                E,
+                Aliased<Slow, WithRest<Slow, SlowFields, Document, AliasesOf<Slow, TagOf<Report>>>>,
+            >,
+        >(token, source)
+    }
+
+    fn write_inside(&self, w: &mut Writer) -> Result<()> {
+        write_inside_and_rest::<AliasesOf<Slow, TagOf<Report>>, _, _>(
+            w,
+            SLOW_NAMES,
+            &Parts(&self.path, ()),
+            &self.more,
+        )
+    }
+
+    fn is_object() {
+        rest_named::<Slow, SlowFields, Document, AliasesOf<Slow, TagOf<Report>>>()
+    }
+}
+
+/// A page, and what else is asked of it.
+#[derive(Drop)]
+pub struct Page {
+    pub path: String,
+    pub more: BTreeMap<String, String>,
+}
+
+// Its fields without the rest, and their names.
+pub type PageFields = Slot<String, NoSlot>;
+
+const PAGE_NAMES: &[&str] = &["path"];
+
+impl Record for Page {
+    ghost use Rattle.test_more.specs.declared.reports.TheConstants.{PAGE_NAMES};
+
+    type Values = Parts<BTreeMap<String, String>, <PageFields as Slots>::Values>;
+
+    ghost names = { names_of PAGE_NAMES };
+
+    ghost values = { λ v. (v.more, (v.path, tt)) };
+
+    ghost made = { λ x. record { path = x.1.0; more = x.0 } };
+
+    ghost bijective = { (λ v. refl, λ x. refl) };
+
+    ghost distinct_names = { refl };
+
+    fn names() -> &'static [&'static str] {
+        PAGE_NAMES
+    }
+
+    fn build(parts: Self::Values) -> Page {
+        let Parts(more, parts) = parts;
+        let Parts(path, ()) = parts;
+        Page { path, more }
+    }
+}
+
+impl FromJson for Page {
+    ghost means = { struct_meaning ⟦<WithRest<Page, PageFields, String> as Slots>⟧.meaning ⟦<Page as Record>⟧.names ⟦<Page as Record>⟧.values };
+
+    fn missing() -> Option<Page> {
+        None
+    }
+
+    fn read<'a>(token: Event<'a>, source: &mut Source<'a>) -> Result<Page> {
+        read_record::<Page, WithRest<Page, PageFields, String>>(token, source)
+    }
+}
+
+impl Serialize for Page {
+    ghost tree = { rest_tree string_bytes ⟦<Page as Record>⟧.names [] ⟦<String as Serialize>⟧.tree
+        (λ m. m.entries) ⟦<PageFields as WrittenFields>⟧.trees ⟦<Page as Record>⟧.values };
+
+    fn begin(&self, w: &mut Writer) -> Result<()> {
+        write_members_and_rest::<NoNames, _, _>(w, PAGE_NAMES, &Parts(&self.path, ()), &self.more)
+    }
+}
+
+impl Ranged for Page {
+    ghost valid = { λ v. ⟦<BTreeMap<String, String> as Ranged>⟧.valid (⟦<Page as Record>⟧.values
+        v).0 × ⟦<PageFields as WrittenFields>⟧.valid (⟦<Page as Record>⟧.values v).1 };
+
+    fn ranged(&self) {
+        self.path.ranged();
+        self.more.ranged();
+    }
+}
+
+impl RoundTrip for Page {
+    fn round_trips() {
+        <PageFields as OpenFields>::open();
+        rest_round_trips::<Page, PageFields, String, NoNames>()
+    }
+}
+
+impl Lossless for Page {
+    fn lossless() {
+        rest_lossless::<Page, PageFields, String, NoNames>()
+    }
+}
+
+impl NeverNull for Page {
+    fn never_null() {}
+}
+
+impl Stable for Page {
     fn stable() {
-        rest_stable::<AskedPage, AskedPageFields, String, NoNames>()
+        rest_stable::<Page, PageFields, String, NoNames>()
     }
 }
 
 /// What a server was asked, one member by the variant's name.
 #[derive(Drop)]
 pub enum Asked {
-    Page {
-        path: String,
-        more: BTreeMap<String, String>,
-    },
+    Page(Page),
     Nothing,
 }
 
 // Its variants, and their names.
-type AskedCases = DataCase<AskedPage, UnitCase<NoCase>>;
+type AskedCases = DataCase<Page, UnitCase<NoCase>>;
 
 const ASKED_NAMES: &[&str] = &["Page", "Nothing"];
 
@@ -713,17 +667,12 @@ impl DataEnum for Asked {
 
     ghost names = { names_of ASKED_NAMES };
 
-    ghost values = { elim [
-      | Page x0 x1 ↦ first_case (record { path = x0; more = x1 })
-      | Nothing ↦
-          later_case (first_case tt)
-    ] };
+    ghost values = { elim [ Page x0 ↦ first_case x0 | Nothing ↦ later_case (first_case tt) ] };
 
-    ghost made = { each_case _ (λ x. Page x.path x.more) (each_case _ (λ x. Nothing) (any_of_never
-        _)) };
+    ghost made = { each_case _ (λ x. Page x) (each_case _ (λ x. Nothing) (any_of_never _)) };
 
     ghost bijective = { (
-      elim [ Page x0 x1 ↦ refl | Nothing ↦ refl ],
+      elim [ Page x0 ↦ refl | Nothing ↦ refl ],
       each_case _ (λ x. refl)
           (each_case _ (λ x. refl) (any_of_never _)),
     ) };
@@ -736,7 +685,7 @@ impl DataEnum for Asked {
 
     fn build(value: Self::Values) -> Asked {
         match value {
-            OneOf::First(AskedPage { path, more }) => Asked::Page { path, more },
+            OneOf::First(a) => Asked::Page(a),
             OneOf::Later(value) => match value {
                 OneOf::First(()) => Asked::Nothing,
                 OneOf::Later(value) => match value {},
@@ -763,15 +712,7 @@ impl Serialize for Asked {
 
     fn begin(&self, w: &mut Writer) -> Result<()> {
         match self {
-            Asked::Page { path, more } => {
-                write_fields_and_rest::<NoNames, _, _>(
-                    w,
-                    "Page",
-                    ASKED_PAGE_NAMES,
-                    &Parts(path, ()),
-                    more,
-                )
-            },
+            Asked::Page(a) => write_data(w, "Page", a),
             Asked::Nothing => w.fragment(Fragment::Str("Nothing")),
         }
     }
@@ -782,10 +723,7 @@ impl Ranged for Asked {
 
     fn ranged(&self) {
         match self {
-            Asked::Page { path, more } => {
-                path.ranged();
-                more.ranged();
-            },
+            Asked::Page(a) => a.ranged(),
             Asked::Nothing => {},
         }
     }

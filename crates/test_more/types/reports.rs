@@ -4,10 +4,7 @@ use std::collections::BTreeMap;
 pub enum Report { // tag "kind", lossless
     Up(Health),
     Moved(Place),
-    Slow {
-        path: String, // alias "url"
-        more: BTreeMap<String, Document>, // rest
-    },
+    Slow(Slow),
     Down,
 }
 
@@ -23,11 +20,20 @@ pub struct Place { // lossless
     pub more: BTreeMap<String, u64>, // rest
 }
 
+/// What is slow.
+pub struct Slow { // lossless
+    pub path: String, // alias "url"
+    pub more: BTreeMap<String, Document>, // rest
+}
+
+/// A page, and what else is asked of it.
+pub struct Page { // lossless, stable
+    pub path: String,
+    pub more: BTreeMap<String, String>, // rest
+}
+
 /// What a server was asked, one member by the variant's name.
 pub enum Asked { // lossless, stable
-    Page {
-        path: String,
-        more: BTreeMap<String, String>, // rest
-    },
+    Page(Page),
     Nothing,
 }
