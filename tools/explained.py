@@ -13,8 +13,11 @@ from derived_structs import NO_VALUE, Struct
 from derived_text import Type
 from derived_world import DOCUMENTS, Named, World
 from faults import Refused
+from replaced import replace
 
 INVALID = "invalid"
+# What each page that is written says of itself.
+WRITTEN_BY = "Written by `./derive --explain --write "
 FORMS = {
     "unit": "A string: the name of a variant. Any other JSON is invalid.",
     "external": "A string or an object of one member, as the last column says. Any other JSON is invalid.",
@@ -193,7 +196,7 @@ def check_tag(world, path, it):
 
 def page(world, path):
     """The page of a module."""
-    head = f"# The types of `{'::'.join(path)}`\n\nWritten by `./derive --explain --write {path[0]}` from `{world.module(path).name}`."
+    head = f"# The types of `{'::'.join(path)}`\n\n{WRITTEN_BY}{path[0]}` from `{world.module(path).name}`."
     return "\n\n".join([head, *(section(world, path, name) for name in world.types_in(path))]) + "\n"
 
 
@@ -213,9 +216,10 @@ def write_pages(root, crate):
     """Writes the page of each file of types of a crate beside it. Returns the files that it wrote."""
     world = World(root)
     pages = {world.root / "crates" / crate / "types" / f"{path[-1]}.md": page(world, path) for path in world.paths_of(crate)}
-    for file, text in pages.items():
-        file.write_text(text)
-    return list(pages)
+    for file in pages:
+        if file.is_symlink() or file.exists() and WRITTEN_BY not in file.read_text(errors="replace"):
+            raise Refused(f"{file.relative_to(world.root)} is a link, or was not written by `./derive --explain --write`: rename it")
+    return [replace(file, text.encode()) for file, text in pages.items()]
 
 
 def stale_pages(root):
@@ -223,6 +227,8 @@ def stale_pages(root):
     world = World(root)
     for file in sorted(world.root.glob("crates/*/types/*.md")):
         path, shown = (file.parent.parent.name, file.stem), file.relative_to(world.root)
+        if WRITTEN_BY not in file.read_text(errors="replace"):
+            continue
         if not file.with_suffix(".rs").exists():
             yield f"{shown}: there is no {file.stem}.rs beside it: delete it"
             continue

@@ -59,7 +59,7 @@ def faults_of_own_crates(folder):
     remarked = "# The library.\n" + made.replace(KEYS, "# Keys.\n" + KEYS.replace("\n", " # of maps\n"))
     own = {f"crates/{name}/src/lib.rt": f"//! {name} of the user.\n" for name in ("miniserde_ours", "turns")}
     own |= {"LICENSE-MIT": "All rights reserved.\n", "docs/ours.md": "[gone](gone.md)\n", "linked.md": "A page of the user.\n"}
-    write(folder, {"crates.txt": "miniserde_json: miniserde_model\n" + remarked + MARK + OWN, "crates/miniserde_json/src/lib.rt": "", **own})
+    write(folder, {"crates.txt": remarked + MARK + OWN, **own})
     (folder / "docs/FIRST-TYPE.md").unlink()
     (folder / "docs/FIRST-TYPE.md").symlink_to("../linked.md")
     status, errors = ran("./new", "--update", folder)
@@ -69,8 +69,6 @@ def faults_of_own_crates(folder):
         yield f"--update writes another crates.txt:\n{(folder / 'crates.txt').read_text()}"
     files = files_of(folder)
     yield from (f"--update changes {name}" for name, text in own.items() if files.get(name) != text.encode())
-    if "crates/miniserde_json/src/lib.rt" in files:
-        yield "--update keeps a crate that the library no longer has"
     write(folder, {"crates.txt": made + MARK + OWN})
 
 
@@ -87,11 +85,13 @@ def faults_of_places(folder, room):
         place.unlink()
         away.rename(place)
     listed = (folder / "crates.txt").read_text()
-    write(folder, {"crates.txt": listed.replace(MARK, "rows: miniserde_core\n" + MARK), "crates/rows/src/lib.rt": "pub mod goods;\n"})
-    status, errors = ran("./new", "--update", folder)
-    if status != 1 or "`rows` is not a crate of the library" not in errors or not (folder / "crates/rows/src/lib.rt").exists():
-        yield f"--update over a crate `rows` of the user's ends with {status}: {errors}"
-    shutil.rmtree(folder / "crates/rows")
+    for name, file, text in (("rows", "lib", "pub mod error;\npub mod goods;\n"), ("turns", "lib", ""), ("store", "main", "fn main() {}\n")):
+        taken = f"{name}: miniserde_core\n"
+        write(folder, {"crates.txt": listed.replace(taken, "").replace(MARK, taken + MARK), f"crates/{name}/src/{file}.rt": text})
+        status, errors = ran("./new", "--update", folder)
+        if status != 1 or f"`{name}` is not a crate of the library" not in errors or not (folder / f"crates/{name}/src/{file}.rt").exists():
+            yield f"--update over a crate `{name}` of the user's ends with {status}: {errors}"
+        shutil.rmtree(folder / "crates" / name) if name != "turns" else None
     log = (folder / "CHANGELOG.md").read_text()
     write(folder, {"crates.txt": listed})
     write(folder, {"CHANGELOG.md": "# Changelog\n\nOf the user.\n"})
