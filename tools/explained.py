@@ -212,12 +212,17 @@ def explained(root, crate, name=None):
     return "\n\n".join(found) + "\n"
 
 
+def is_written(file):
+    """Returns whether a page is one of those that are written here, by its third line."""
+    return "".join(file.read_text(errors="replace").splitlines()[2:3]).startswith(WRITTEN_BY)
+
+
 def write_pages(root, crate):
     """Writes the page of each file of types of a crate beside it. Returns the files that it wrote."""
     world = World(root)
     pages = {world.root / "crates" / crate / "types" / f"{path[-1]}.md": page(world, path) for path in world.paths_of(crate)}
     for file in pages:
-        if file.is_symlink() or file.exists() and WRITTEN_BY not in file.read_text(errors="replace"):
+        if file.is_symlink() or file.exists() and not is_written(file):
             raise Refused(f"{file.relative_to(world.root)} is a link, or was not written by `./derive --explain --write`: rename it")
     return [replace(file, text.encode()) for file, text in pages.items()]
 
@@ -227,7 +232,7 @@ def stale_pages(root):
     world = World(root)
     for file in sorted(world.root.glob("crates/*/types/*.md")):
         path, shown = (file.parent.parent.name, file.stem), file.relative_to(world.root)
-        if WRITTEN_BY not in file.read_text(errors="replace"):
+        if not is_written(file):
             continue
         if not file.with_suffix(".rs").exists():
             yield f"{shown}: there is no {file.stem}.rs beside it: delete it"

@@ -30,6 +30,7 @@ KEPT = (
     ("app", "main", None, "src/main.rt, the root of the crate"),
     ("yours", "plain", None, "it has the line `"),
     ("yours", "spans", "//! Spans.\nuse std::ops::Range;\n\npub struct Span(pub Range<u64>);\n", "it does not import `miniserde::derived`"),
+    ("yours", "old", "// fn a() {}\n", "it does not import `miniserde::derived`"),
     ("yours", "ends", "use miniserde_core::derived::Error;\n\nimpl std::fmt::Display for End {}\n", "it has the line `impl std::fmt::Display for End {}`"),
 )
 # Programs in place of `rt`: one that fails, and one that ends the `./new` above the `./derive` that starts it.
@@ -98,6 +99,8 @@ def faults_of_places(folder, room):
     status, errors = ran("./new", "--update", folder)
     if status != 1 or "CHANGELOG.md is not the library's" not in errors or "Of the user" not in (folder / "CHANGELOG.md").read_text():
         yield f"--update over a changelog of the user's ends with {status}: {errors}"
+    if os.geteuid() == 0:
+        yield from faults_of_planted(folder)
     write(folder, {"CHANGELOG.md": log, "linked": ""})
     (folder / "derive").unlink()
     (folder / "derive").symlink_to("linked")
@@ -105,6 +108,24 @@ def faults_of_places(folder, room):
     if status or (folder / "linked").read_text() or (folder / "derive").is_symlink():
         yield f"--update where `derive` is a link ends with {status}, or writes through it: {errors}"
     (folder / "linked").unlink()
+
+
+def faults_of_planted(folder):
+    """Updates, as root, a repository in which another user has put files, and one that others may write. Yields faults."""
+    for name in ("subprocess.py", "tools/dataclasses.py", "crates/yours/specs/Ours.antt"):
+        write(folder, {name: "raise SystemExit(9)\n"})
+        os.chown(folder / name, 65534, 65534)
+        status, errors = ran("./new", "--update", folder)
+        if status != 1 or f"{name} is another user's" not in errors:
+            yield f"--update by root beside {name} of another user ends with {status}: {errors}"
+        (folder / name).unlink()
+    for name in (".", "tools", "crates/yours/src"):
+        mode = (folder / name).stat().st_mode
+        (folder / name).chmod(0o777)
+        status, errors = ran("./new", "--update", folder)
+        if status != 1 or "may be written by others" not in errors:
+            yield f"--update by root where others may write {name} ends with {status}: {errors}"
+        (folder / name).chmod(mode)
 
 
 def faults_of_anothers(room):

@@ -24,14 +24,14 @@ def is_written(text, at, renamed):
 
 
 def by_hand(text):
-    """Returns what shows that `./derive` did not write a module, or "" if it did. It may replace a module of only comments."""
+    """Returns what shows that `./derive` did not write a module, or "" if it did. It may replace a module of only `//!` lines, which it keeps."""
     starts = [0, *(it.end() for it in re.finditer("\n", text))]
     renamed = {new: name for used in re.findall(r"(?m)^use [^;]*;", text) for name, new in RENAMED.findall(used)}
     line = next((text[at:].partition("\n")[0] for at in starts if not is_written(text, at, renamed)), "")
     if line:
         return f"has the line `{line}`"
-    has_code = any(it.strip() and not it.startswith("//") for it in text.splitlines())
-    return "does not import `miniserde::derived`" if has_code and not IMPORT.search(text) else ""
+    has_more = any(it.strip() and not it.startswith("//!") for it in text.splitlines())
+    return "does not import `miniserde::derived`" if has_more and not IMPORT.search(text) else ""
 
 
 def overwritten(types, file):

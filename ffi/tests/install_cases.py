@@ -15,7 +15,7 @@ import traceback
 import unittest
 
 ROOT = pathlib.Path(__file__).resolve().parents[2]
-NEEDED = ("install", "ffi", "tools/rattle.py", "crates.txt", "docs/FROM-ANY-LANGUAGE.md", "docs/CANON.md", "LICENSE-APACHE", "LICENSE-MIT",
+NEEDED = ("install", "ffi", "tools/rattle.py", "tools/replaced.py", "crates.txt", "docs/FROM-ANY-LANGUAGE.md", "docs/CANON.md", "LICENSE-APACHE", "LICENSE-MIT",
           "crates/miniserde_c/src/lib.rt", "crates/grammar_table/data/table.txt")
 BUILT = ("crates/miniserde_c/out/libminiserde_c.a", "crates/canon/out/canon.o")
 NOBODY = 65534
