@@ -169,7 +169,7 @@ class Schemas:
         """The schema of a struct; `tag` has the name of a tag beside its members, and its text."""
         properties = {tag[0]: {"const": tag[1]}} if tag else {}
         for enum in map(resolved, it.left_out):
-            properties.setdefault(self.world.model(enum.module, enum.name).tag, True)
+            properties.setdefault(self.world.model(enum.module, enum.name).tag, {})
         required, besides = [tag[0]] if tag else [], []
         for member in it.members:
             of, names = resolved(member.slot.of), [member.name, *member.aliases]
